@@ -1,0 +1,78 @@
+-- Writing a rule into a slice lane by lane: the cells lie in lanes of w, and inside a lane a stepped state gives the next entry.
+-- Over any rule and any state. Assumes nothing.
+use mathlib.Core.Path.{_≡_, refl, ap, sym, _∙_, subst}
+use mathlib.Core.List.{List}
+use Prim.Native.Nat.{ℕ, min, _+_, _-_, _*_, _≤_, _<_}
+use native.Mathlib.Nat.{le-antisymm}
+use native.Mathlib.Omega.{arith}
+use lib.ListN.{length, set, length-set}
+use Rattle.laws.specs.Fill.{Filled, filled-none, filled-more}
+
+-- a slice filled up to from is filled up to stop, cell x being the next, whatever the slice was
+abbrev pub Goes : (ℕ → ℕ) → ℕ → ℕ → ℕ → List ℕ → List ℕ → Type 0
+Goes f x from stop old new = (a : ℕ) (o : List ℕ) → a + from ≡ x → Filled f a o old from → Filled f a o new stop
+
+-- inside the lane that begins at cell lane: At y is what the state is at its place y
+module _ {S : Type 0} (f : ℕ → ℕ) (lane : ℕ) (At : ℕ → S → Type 0) where
+  -- the loop, from place y and entry from on, at entry i
+  pub record Going (y from stop : ℕ) (out₀ out : List ℕ) (at : S) (i : ℕ) : Type 0 where
+    pub since : from ≤ i
+    pub until : i ≤ stop
+    pub place : At (y + (i - from)) at
+    pub long : length out ≡ length out₀
+    pub goes : Goes f (lane + y) from i out₀ out
+
+  module _ {y from stop : ℕ} {out₀ : List ℕ} where
+    pub going-first : {at : S} → from ≤ stop → At y at → Going y from stop out₀ out₀ at from
+    going-first {at} h p = record {
+      since = omega arith;
+      until = h;
+      place = subst (λ (x : ℕ). At x at) (omega arith) p;
+      long = refl;
+      goes = λ a o e g. g;
+    }
+
+    -- an entry more, and the state one place on
+    pub going-next : {out : List ℕ} {at next : S} {i : ℕ} {v : ℕ} → Going y from stop out₀ out at i → i < stop → stop ≤ length out₀
+        → v ≡ f (lane + (y + (i - from))) → At (y + (i - from) + 1) next → Going y from stop out₀ (set out i v) next (i + 1)
+    going-next {out} {at} {next} {i} {v} g h room e p = record {
+      since = omega (arith, g .since);
+      until = omega arith;
+      place = subst (λ (x : ℕ). At x next) (omega (arith, g .since)) p;
+      long = length-set out i v ∙ g .long;
+      goes = λ a o q z. filled-more f a o out i v (g .goes a o q z) (omega (arith, z .long))
+          (e ∙ ap f (let r : lane + (y + (i - from)) ≡ a + i = omega (arith, q, g .since) in r));
+    }
+
+    pub going-all : {out : List ℕ} {at : S} {i : ℕ} → Going y from stop out₀ out at i → stop ≤ i → Going y from stop out₀ out at stop
+    going-all {out} {at} {i} g h = subst (λ (k : ℕ). Going y from stop out₀ out at k) (le-antisymm (g .until) h) g
+
+-- lane by lane: At lane y is what the state is at place y of a lane. Where nothing is left the state may be any
+pub record Lanewise {S : Type 0} (f : ℕ → ℕ) (w : ℕ) (At : ℕ → ℕ → S → Type 0) (cell count : ℕ) (out₀ out : List ℕ) (lane y : ℕ) (at : S) (i : ℕ) : Type 0 where
+  pub far : i ≤ count
+  pub filled : Filled f cell out₀ out i
+  pub place : i < count → cell + i ≡ w * lane + y
+  pub inside : i < count → y < w
+  pub state : i < count → At lane y at
+
+module _ {S : Type 0} {f : ℕ → ℕ} {w : ℕ} {At : ℕ → ℕ → S → Type 0} {cell count : ℕ} {out₀ : List ℕ} where
+  pub lanes-first : {lane y : ℕ} {at : S} → cell ≡ w * lane + y → y < w → At lane y at → Lanewise f w At cell count out₀ out₀ lane y at 0
+  lanes-first e h p = record {
+    far = omega arith;
+    filled = filled-none f cell out₀;
+    place = λ l. omega arith;
+    inside = λ l. h;
+    state = λ l. p;
+  }
+
+  -- a lane, or what there is room for of it, and the state at the beginning of the next
+  pub lanes-next : {out new : List ℕ} {lane y : ℕ} {at next : S} {i stop : ℕ} → Lanewise f w At cell count out₀ out lane y at i → i < count
+      → stop ≡ min count (i + (w - y)) → Goes f (w * lane + y) i stop out new → 0 < w → (stop < count → At (lane + 1) 0 next)
+      → Lanewise f w At cell count out₀ new (lane + 1) 0 next stop
+  lanes-next {out} {new} {lane} {y} {at} {next} {i} {stop} g h e go hw p = record {
+    far = omega arith;
+    filled = go cell out₀ (g .place h) (g .filled);
+    place = λ l. omega (arith, g .place h, g .inside h);
+    inside = λ l. hw;
+    state = p;
+  }

@@ -1,0 +1,11 @@
+pub mod Outcome
+pub mod Digits
+pub mod Sized
+pub mod Run
+pub mod Table
+pub mod Fill
+pub mod Lanes
+pub mod Perm
+pub mod Move
+pub mod Keep
+pub mod Cut

@@ -1,0 +1,1 @@
+// Mathematics only: specs/ has the laws, over any element and any rule. No code.
