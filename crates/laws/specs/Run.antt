@@ -55,3 +55,9 @@ module _ {A : Type 0} where
   run-mem f a zero j h l = absurd (omega arith)
   run-mem f a (suc n) j h l =
       ⊎-elim (λ e. List·Memᴰ·head (ap f (sym e))) (λ k. List·Memᴰ·tail (run-mem f (suc a) n j k (omega arith))) (eq-or-lt-of-le h)
+
+  -- an entry of a list stands in it
+  pub mem-at : (l : List A) (z : A) (k : ℕ) → k < length l → List·Memᴰ (getD l k z) l
+  mem-at [] z k h = absurd (not-suc-le-zero h)
+  mem-at (x ∷ xs) z zero h = List·Memᴰ·head refl
+  mem-at (x ∷ xs) z (suc k) h = List·Memᴰ·tail (mem-at xs z k (le-of-suc-le-suc h))

@@ -1,0 +1,56 @@
+-- Every accepted set of a carrier profile is a block that the carrier laws hold for: N is a positive multiple of d, and N/d one of s.
+-- Computed over the 307 carrier sets of the table. Assumes nothing.
+use mathlib.Core.Path.{_≡_, refl, sym, ap, _∙_}
+use mathlib.Core.Bool.{Bool, true, _&&_}
+use mathlib.Core.Logic.{_≢_, ⊎-elim}
+use mathlib.Core.List.{List, List·Memᴰ, List·Memᴰ·append-cases, Memᴰ·of-map}
+use Prim.Native.Nat.{ℕ, _+_, _*_, _/_, _%_, _≤_, _<_}
+use native.Mathlib.Nat.{div-add-mod}
+use native.Mathlib.Omega.{arith}
+use lib.Dec.{leb, ltb, eqb}
+use borrow.Author.Tests.{leb-true, ltb-true, eqb-true}
+use Rattle.laws.specs.Outcome.{done}
+use Rattle.laws.specs.Table.{both, every, at-each}
+use Rattle.laws.specs.Sized.{Sized}
+use Rattle.sets.specs.declared.Set.{Set}
+use Rattle.sets.specs.Table.{rowsOf, groupOf}
+use Rattle.sets.specs.Verdict.{verdictOf}
+use Rattle.sets.specs.Listed.{set, setsOf, ofdm, ofdma, wlan, bench, carriers, turboSizes, turbo, listedSets}
+use Rattle.sets.specs.Admits.{accepted-listed}
+
+pub record Carried (s : Set) : Type 0 where
+  pub sized : Sized (rowsOf s) (s .n) (groupOf s)
+  pub small : s .n ≤ 1536
+
+-- the same as a test
+divides : Set → Bool
+divides s = ltb 0 (rowsOf s) && (ltb 0 (groupOf s) && (ltb 0 (s .n) && (eqb (s .n % (rowsOf s * groupOf s)) 0 && leb (s .n) 1536)))
+
+all-divide : every divides (setsOf carriers) ≡ true
+unfolding divides carriers ofdm ofdma wlan bench rowsOf groupOf
+all-divide = refl
+
+carried-by : (s : Set) → divides s ≡ true → Carried s
+unfolding divides
+carried-by s e =
+    let p = both (ltb 0 (rowsOf s)) _ e in
+    let q = both (ltb 0 (groupOf s)) _ (p .1) in
+    let r = both (ltb 0 (s .n)) _ (q .1) in
+    let t = both (eqb (s .n % (rowsOf s * groupOf s)) 0) _ (r .1) in
+    record {
+      sized = record {
+        d-pos = ltb-true 0 (rowsOf s) (p .0);
+        s-pos = ltb-true 0 (groupOf s) (q .0);
+        n-pos = ltb-true 0 (s .n) (r .0);
+        groups = s .n / (rowsOf s * groupOf s);
+        whole = omega (arith, div-add-mod (s .n) (rowsOf s * groupOf s), eqb-true (s .n % (rowsOf s * groupOf s)) 0 (t .0));
+      };
+      small = leb-true (s .n) 1536 (t .1);
+    }
+
+pub carried : (s : Set) → verdictOf s ≡ done tt → s .profile ≢ 5 → Carried s
+unfolding listedSets turbo
+carried s e ne =
+    ⊎-elim (λ m. carried-by s (at-each divides (setsOf carriers) all-divide m))
+    (λ m. absurd (ne (sym (ap (λ (x : Set). x .profile) (Memᴰ·of-map (λ n. set 5 1 n) turboSizes m .2)))))
+    (List·Memᴰ·append-cases (setsOf carriers) (accepted-listed s e))

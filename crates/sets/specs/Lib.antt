@@ -1,0 +1,5 @@
+pub mod Table
+pub mod Verdict
+pub mod Listed
+pub mod Admits
+pub mod Carried

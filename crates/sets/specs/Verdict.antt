@@ -1,0 +1,45 @@
+-- The test of a set: refusals 1, 2 and 3 of document 01, in that order, and nothing more. Assumes nothing.
+use Prim.Native.Nat.{ℕ}
+use mathlib.Core.Bool.{not}
+use mathlib.Core.List.{List, [], _∷_}
+use mathlib.Core.Path.{_≡_, refl, ap}
+use native.Mathlib.Omega.{arith}
+use Rattle.laws.specs.Outcome.{Outcome, done, refused, Line, line, judged}
+use Rattle.sets.specs.declared.Set.{Set}
+use Rattle.sets.specs.declared.Refusal.{Refusal}
+use Rattle.sets.specs.declared.Verdict.{Verdict}
+use Rattle.sets.specs.declared.Verdict.the-variants.{Accepted, Refused}
+use Rattle.sets.specs.Table.{profileListed, bitsListed, sizeListed}
+
+-- 1: the profile isn't 1 to 5. 2: the bits aren't listed for the profile. 3: N isn't listed for that profile and those bits
+unfoldable pub setLines : Set → List Line
+setLines s =
+    line 1 (not (profileListed s))
+    ∷ line 2 (not (bitsListed s))
+    ∷ line 3 (not (sizeListed s))
+    ∷ []
+
+-- what a refusal of a set carries: its number alone
+unfoldable pub refusal : Set → ℕ → Refusal
+refusal s k = record { number = k }
+
+-- what an answer says
+abbrev pub sayVerdict : Verdict → Outcome Refusal (Unit {0})
+sayVerdict Accepted = done tt
+sayVerdict (Refused x) = refused x
+
+-- what the test of a set has to say
+unfoldable pub verdictOf : Set → Outcome Refusal (Unit {0})
+verdictOf s = judged (refusal s) (setLines s) tt
+
+-- a refusal's number is the one it was made of
+pub refusal-number : (s : Set) (k : ℕ) → refusal s k .number ≡ k
+unfolding refusal
+refusal-number s k = refl
+
+-- two answers that say the same are the same
+pub verdicts-apart : (a b : Verdict) → sayVerdict a ≡ sayVerdict b → a ≡ b
+verdicts-apart Accepted Accepted e = refl
+verdicts-apart Accepted (Refused y) e = let z : _≡_ {A = ℕ} 0 1 = cc in absurd (omega arith)
+verdicts-apart (Refused x) Accepted e = let z : _≡_ {A = ℕ} 0 1 = cc in absurd (omega arith)
+verdicts-apart (Refused x) (Refused y) e = let q : x ≡ y = cc in ap Refused q

@@ -1,0 +1,122 @@
+// A parameter set, the test of one, and what a refusal carries.
+ghost use mathlib.Core.Path.{_≡_};
+ghost use Prim.Native.Nat.{_<_};
+ghost use Rattle.laws.specs.Table.{multiple};
+ghost use Rattle.sets.specs.Table.{rowsOf, groupOf, profileListed, bitsListed, sizeListed};
+ghost use Rattle.sets.specs.Verdict.{refusal, sayVerdict, verdictOf};
+
+// A profile of document 01, bits per carrier, and the block's size N. Any numbers may be given.
+pub struct Set {
+    pub profile: u32,
+    pub bits: u32,
+    pub n: u32,
+}
+
+// What a refused call gives back: the number of document 01.
+pub struct Refusal {
+    pub number: u32,
+}
+
+// The answer of the test of a set.
+pub enum Verdict {
+    Accepted,
+    Refused(Refusal),
+}
+
+// d, the rows of a carrier profile.
+pub fn rows_of(set: Set) -> u32
+    ensures { λ r. ⌜ r ≡ rowsOf set ⌝ }
+{
+    if set.profile == 1 { 12 } else { 16 }
+}
+
+// s, the group that the bits per carrier give.
+pub fn group_of(set: Set) -> u32
+    ensures { λ r. ⌜ r ≡ groupOf set ⌝ }
+    ensures { λ r. ⌜ (0 < r) × (r < 4) ⌝ }
+{
+    let b = set.bits;
+    if b == 6 {
+        return 3;
+    }
+    if b == 4 {
+        return 2;
+    }
+    1
+}
+
+// The refusal of a set with a number.
+pub fn refusal_of(set: Set, number: u32) -> Refusal
+    ensures { λ r. ⌜ r ≡ refusal set number ⌝ }
+{
+    Refusal { number }
+}
+
+fn profile_listed(set: Set) -> bool
+    ensures { λ r. ⌜ r ≡ profileListed set ⌝ }
+{
+    let p = set.profile;
+    (1 <= p) & (p <= 5)
+}
+
+fn bits_listed(set: Set) -> bool
+    ensures { λ r. ⌜ r ≡ bitsListed set ⌝ }
+{
+    let p = set.profile;
+    let b = set.bits;
+    if p == 5 {
+        return b == 1;
+    }
+    if p == 2 {
+        return (b == 2) | ((b == 4) | (b == 6));
+    }
+    (b == 1) | ((b == 2) | ((b == 4) | (b == 6)))
+}
+
+// Whether n is a positive multiple of u, at most m.
+fn multiple_of(u: u32, m: u32, n: u32) -> bool
+    requires { ⌜ 0 < u ⌝ }
+    ensures { λ r. ⌜ r ≡ multiple u m n ⌝ }
+{
+    (0 < n) & ((n <= m) & (n % u == 0))
+}
+
+// The bits are listed, so that no product wraps.
+fn size_listed(set: Set) -> bool
+    requires { ⌜ (0 < set .bits) × (set .bits < 7) ⌝ }
+    ensures { λ r. ⌜ r ≡ sizeListed set ⌝ }
+{
+    let p = set.profile;
+    let b = set.bits;
+    let n = set.n;
+    if p == 1 {
+        return (n == 12 * b) | ((n == 24 * b) | ((n == 48 * b) | ((n == 96 * b) | (n == 192 * b))));
+    }
+    if p == 2 {
+        return multiple_of(48 * b, 576, n);
+    }
+    if p == 3 {
+        return n == 48 * b;
+    }
+    if p == 4 {
+        let unit = 16 * group_of(set);
+        return multiple_of(unit, 1536, n);
+    }
+    (40 <= n) & (n <= 5114)
+}
+
+// The test of a parameter set: 1, 2, 3, in that order, and nothing more.
+pub fn test(set: Set) -> Verdict
+    ensures { λ r. ⌜ sayVerdict r ≡ verdictOf set ⌝ }
+{
+    if !profile_listed(set) {
+        return Verdict::Refused(refusal_of(set, 1));
+    }
+    if !bits_listed(set) {
+        return Verdict::Refused(refusal_of(set, 2));
+    }
+    if !size_listed(set) {
+        return Verdict::Refused(refusal_of(set, 3));
+    }
+    Verdict::Accepted
+}
