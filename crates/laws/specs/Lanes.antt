@@ -1,11 +1,12 @@
 -- Writing a rule into a slice lane by lane: the cells lie in lanes of w, and inside a lane a stepped state gives the next entry.
 -- Over any rule and any state. Assumes nothing.
 use mathlib.Core.Path.{_≡_, refl, ap, sym, _∙_, subst}
-use mathlib.Core.List.{List}
+use mathlib.Core.List.{List, _++_}
 use Prim.Native.Nat.{ℕ, min, _+_, _-_, _*_, _≤_, _<_}
 use native.Mathlib.Nat.{le-antisymm}
 use native.Mathlib.Omega.{arith}
-use lib.ListN.{length, set, length-set}
+use lib.ListN.{length, set, drop, length-set}
+use Rattle.laws.specs.Run.{run}
 use Rattle.laws.specs.Fill.{Filled, filled-none, filled-more}
 
 -- a slice filled up to from is filled up to stop, cell x being the next, whatever the slice was
@@ -76,3 +77,15 @@ module _ {S : Type 0} {f : ℕ → ℕ} {w : ℕ} {At : ℕ → ℕ → S → Ty
     inside = λ l. hw;
     state = p;
   }
+
+-- a walk of a rule over n cells, from cell on: as many entries as there is room and cells for, and the rest kept
+pub record Ran (f : ℕ → ℕ) (n cell : ℕ) (old new : List ℕ) (count : ℕ) : Type 0 where
+  pub count-is : count ≡ min (length old) (n - cell)
+  pub list-is : new ≡ run f cell count ++ drop count old
+
+pub lanes-all : {S : Type 0} {f : ℕ → ℕ} {w : ℕ} {At : ℕ → ℕ → S → Type 0} {n cell count : ℕ} {out₀ out : List ℕ} {lane y : ℕ} {at : S} {i : ℕ}
+    → Lanewise f w At cell count out₀ out lane y at i → count ≤ i → count ≡ min (length out₀) (n - cell) → Ran f n cell out₀ out count
+lanes-all {f = f} {cell = cell} {out₀ = out₀} g h e = record {
+  count-is = e;
+  list-is = g .filled .list ∙ ap (λ (k : ℕ). run f cell k ++ drop k out₀) (le-antisymm (g .far) h);
+}

@@ -1,0 +1,6 @@
+pub mod Formula
+pub mod Laws
+pub mod Once
+pub mod Block
+pub mod Row
+pub mod Along
