@@ -4,3 +4,5 @@ pub mod Once
 pub mod Block
 pub mod Row
 pub mod Along
+pub mod Column
+pub mod Down

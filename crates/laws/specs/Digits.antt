@@ -1,7 +1,8 @@
 -- Division and remainder: a number by its digits, and what the kit lacks besides. Assumes nothing.
-use mathlib.Core.Path.{_≡_, refl, sym, ap, _∙_}
-use Prim.Native.Nat.{ℕ, zero, suc, _+_, _-_, _*_, _/_, _%_, _≤_, _<_}
-use native.Mathlib.Nat.{mod-add-mod, add-mul-mod-self-left, mod-eq-of-lt, mul-add-mod-self-left, mul-add-div, div-eq-of-lt, add-zero, suc-mul, mul-le-mul-left, mul-comm, div-lt-iff-lt-mul}
+use mathlib.Core.Path.{_≡_, sym, ap, _∙_}
+use mathlib.Core.Logic.{⊎-elim}
+use Prim.Native.Nat.{ℕ, _+_, _-_, _*_, _/_, _%_, _≤_, _<_}
+use native.Mathlib.Nat.{mod-add-mod, add-mul-mod-self-left, mod-eq-of-lt, mul-add-mod-self-left, mul-add-div, div-eq-of-lt, add-zero, suc-mul, mul-le-mul-left, mul-comm, div-lt-iff-lt-mul, mod-lt, mod-self, eq-or-lt-of-le}
 use native.Mathlib.Omega.{arith}
 
 -- one less, times a
@@ -37,3 +38,18 @@ digits-below s a b {c} ha hb = omega (arith, le s a c ha)
 -- the high digit is below c where the number is below s * c
 pub high-below : (s c k : ℕ) → 0 < s → k < s * c → k / s < c
 high-below s c k hs h = div-lt-iff-lt-mul hs .1 (omega (arith, mul-comm s c))
+
+-- one more and one less, modulo s
+module _ (s x : ℕ) (hs : 0 < s) where
+  pub mod-over : x % s + 1 ≡ s → (x + 1) % s ≡ 0
+  mod-over e = sym (mod-add-mod x s 1) ∙ ap (λ (y : ℕ). y % s) e ∙ mod-self s
+
+  pub mod-more : (x % s + 1 ≡ s → ⊥) → (x + 1) % s ≡ x % s + 1
+  mod-more n = let q : ¬ (x % s + 1 ≡ s) = n in sym (mod-add-mod x s 1) ∙ mod-eq-of-lt (omega (arith, mod-lt x hs))
+
+  pub mod-back-over : (x + 1) % s ≡ 0 → s - 1 ≡ x % s
+  mod-back-over e =
+      ⊎-elim (λ q. omega arith) (λ h. absurd (omega (arith, mod-more (λ q. omega arith)))) (eq-or-lt-of-le (mod-lt x hs))
+
+  pub mod-back-less : ((x + 1) % s ≡ 0 → ⊥) → (x + 1) % s - 1 ≡ x % s
+  mod-back-less n = omega (arith, mod-more (λ q. n (mod-over q)))

@@ -2,10 +2,11 @@
 -- Over any rule and any state. Assumes nothing.
 use mathlib.Core.Path.{_≡_, refl, ap, sym, _∙_, subst}
 use mathlib.Core.List.{List, _++_}
-use Prim.Native.Nat.{ℕ, min, _+_, _-_, _*_, _≤_, _<_}
+use Prim.Native.Nat.{ℕ, min, _+_, _-_, _*_, _/_, _≤_, _<_}
 use native.Mathlib.Nat.{le-antisymm}
 use native.Mathlib.Omega.{arith}
 use lib.ListN.{length, set, drop, length-set}
+use Rattle.laws.specs.Digits.{high, high-below}
 use Rattle.laws.specs.Run.{run}
 use Rattle.laws.specs.Fill.{Filled, filled-none, filled-more}
 
@@ -66,16 +67,38 @@ module _ {S : Type 0} {f : ℕ → ℕ} {w : ℕ} {At : ℕ → ℕ → S → Ty
     state = λ l. p;
   }
 
-  -- a lane, or what there is room for of it, and the state at the beginning of the next
-  pub lanes-next : {out new : List ℕ} {lane y : ℕ} {at next : S} {i stop : ℕ} → Lanewise f w At cell count out₀ out lane y at i → i < count
-      → stop ≡ min count (i + (w - y)) → Goes f (w * lane + y) i stop out new → 0 < w → (stop < count → At (lane + 1) 0 next)
+-- a part of lane number lane of m lanes: from place y and entry from on, up to entry stop
+pub record Part (m w lane y from stop : ℕ) (out : List ℕ) : Type 0 where
+  pub lane-in : lane < m
+  pub more : from < stop
+  pub ends : y + (stop - from) ≤ w
+  pub room : stop ≤ length out
+
+-- what comes next: the rest of the lane, or what there is room for of it
+module _ {S : Type 0} {f : ℕ → ℕ} {w : ℕ} {At : ℕ → ℕ → S → Type 0} {cell count : ℕ} {out₀ out : List ℕ} {lane y : ℕ} {at : S} {i stop : ℕ}
+    (g : Lanewise f w At cell count out₀ out lane y at i) (h : i < count) (q : stop ≡ min count (i + (w - y))) where
+  pub part : {n m : ℕ} → n ≡ w * m → count ≡ min (length out₀) (n - cell) → Part m w lane y i stop out
+  part {n} {m} whole e = record {
+    lane-in = lane-below;
+    more = omega (arith, g .inside h);
+    ends = omega (arith, g .inside h);
+    room = omega (arith, g .filled .long);
+  }
+    where
+      lane-below : lane < m
+      lane-below =
+          subst (λ (x : ℕ). x < m) (ap (λ (x : ℕ). x / w) (g .place h) ∙ high w lane (g .inside h))
+          (high-below w m (cell + i) (let l = g .inside h in omega arith) (omega (arith, whole)))
+
+  -- then the state at the beginning of the next lane, if cells are left
+  pub lanes-next : {new : List ℕ} {end next : S} → Going f (w * lane) (At lane) y i stop out new end stop → (At lane w end → At (lane + 1) 0 next)
       → Lanewise f w At cell count out₀ new (lane + 1) 0 next stop
-  lanes-next {out} {new} {lane} {y} {at} {next} {i} {stop} g h e go hw p = record {
+  lanes-next {new} {end} {next} a p = record {
     far = omega arith;
-    filled = go cell out₀ (g .place h) (g .filled);
+    filled = a .goes cell out₀ (g .place h) (g .filled);
     place = λ l. omega (arith, g .place h, g .inside h);
-    inside = λ l. hw;
-    state = p;
+    inside = λ l. omega (arith, g .inside h);
+    state = λ l. p (subst (λ (x : ℕ). At lane x end) (let k : y + (stop - i) ≡ w = omega (arith, g .inside h) in k) (a .place));
   }
 
 -- a walk of a rule over n cells, from cell on: as many entries as there is room and cells for, and the rest kept

@@ -33,10 +33,10 @@ cast-out : tie.Need-cast-out Inv-loop μ-loop
 cast-out c = omega (arith, c .address .ensures, address-small (c .before .before .before .before .pre) (c .before .before .loop .inv) (c .before .loop-test .taken))
 
 mul-out : tie.Need-mul-out Inv-loop μ-loop
-mul-out c = omega (arith, c .before .before .before .before .pre .room, c .before .loop-test .taken, c .before .before .before .before .good)
+mul-out c = omega (arith, c .before .before .before .before .pre .part .room, c .before .loop-test .taken, c .before .before .before .before .good)
 
 slice-write-out : tie.Need-slice-write-out Inv-loop μ-loop
-slice-write-out c = omega (arith, c .before .before .before .before .pre .room, c .before .before .loop .inv .long, c .before .loop-test .taken)
+slice-write-out c = omega (arith, c .before .before .before .before .pre .part .room, c .before .before .loop .inv .long, c .before .loop-test .taken)
 
 next-requires : tie.Need-next-requires Inv-loop μ-loop
 next-requires c κs = along-step (c .before .before .before .before .pre) (c .before .before .loop .inv) (c .before .loop-test .taken) _ _ refl refl

@@ -1,11 +1,11 @@
 -- `carrier::walk_l` writes L from any cell on, row by row. The loop's invariant is the law of lanes; the measure is what is left to write.
 use Prim.Native.Nat.{_-_}
 use mathlib.Core.Path.{refl}
-use native.Mathlib.Nat.{div-le-self}
+use native.Mathlib.Nat.{mod-lt, div-le-self}
 use native.Mathlib.Omega.{arith}
 use Rattle.laws.specs.Sized.{row-pos, d-le}
-use Rattle.laws.specs.Lanes.{lanes-all}
-use Rattle.carrier.specs.Along.{Rows, set-up, rows-first, row-in, along-in, stop-more, end-small, rows-next, top-fits}
+use Rattle.laws.specs.Lanes.{lanes-first, part, lanes-next, lanes-all}
+use Rattle.carrier.specs.Along.{Rows, cell-is, set-up, rows-whole, lift-small, top-fits}
 use Rattle.carrier.proofs.walk_l.Statement.{statement}
 use Rattle.carrier.proofs.walk_l.Tie as tie
 
@@ -40,13 +40,15 @@ new-requires : tie.Need-new-requires Inv-loop μ-loop
 new-requires c κs = set-up (c .before .before .pre)
 
 loop-holds : tie.Need-loop-holds Inv-loop μ-loop
-loop-holds c = rows-first (c .before .before .before .pre) (c .before .least .ensures) (c .new .ensures)
+loop-holds c = let b = c .before .before .before .pre in lanes-first (cell-is b) (mod-lt _ (row-pos (b .size))) (c .new .ensures)
 
 sub-least-2 : tie.Need-sub-least-2 Inv-loop μ-loop
 sub-least-2 c = omega (arith, c .before .loop .inv .inside (c .loop-test .taken))
 
 add-least : tie.Need-add-least Inv-loop μ-loop
-add-least c = let b = c .before .before .before .before .before .pre in omega (arith, c .loop-test .taken, c .before .before .before .least .ensures, b .small, div-le-self (c .before .before .before .before .before .args .n) (c .before .before .before .before .before .args .d))
+add-least c =
+    let b = c .before .before .before .before .before in
+    omega (arith, c .loop-test .taken, c .before .before .before .least .ensures, b .pre .small, div-le-self (b .args .n) (b .args .d))
 
 least-requires-2 : tie.Need-least-requires-2 Inv-loop μ-loop
 least-requires-2 c κs = tt
@@ -54,38 +56,40 @@ least-requires-2 c κs = tt
 along-requires : tie.Need-along-requires Inv-loop μ-loop
 along-requires c κs =
     let l = c .before .before in
-    along-in (l .before .before .before .before .before .pre) (l .before .before .before .least .ensures) (l .before .loop .inv) (l .loop-test .taken) (c .before .least2 .ensures)
+    let b = l .before .before .before .before .before .pre in
+    record {
+      size = b .size;
+      small = b .small;
+      spot = l .before .loop .inv .state (l .loop-test .taken);
+      part = part (l .before .loop .inv) (l .loop-test .taken) (c .before .least2 .ensures) (rows-whole (b .size)) (l .before .before .before .least .ensures);
+    }
 
 next-row-requires : tie.Need-next-row-requires Inv-loop μ-loop
 next-row-requires c κs =
     let l = c .before .before .before .before .before in
     let b = l .before .before .before .before .before .pre in
-    let e = l .before .before .before .least .ensures in
-    let q = c .before .before .before .before .least2 .ensures in (
-      end-small b e (l .before .loop .inv) (l .loop-test .taken) q (c .before .before .along .ensures),
-      omega (arith, d-le (b .size), b .small),
-      omega (arith, row-in b e (l .before .loop .inv) (l .loop-test .taken) q, d-le (b .size), b .small),
-    )
+    let p = part (l .before .loop .inv) (l .loop-test .taken) (c .before .before .before .before .least2 .ensures) (rows-whole (b .size)) (l .before .before .before .least .ensures) in
+    let e = lift-small (b .size) (c .before .before .along .ensures .place) in
+    (omega (arith, b .small), omega (arith, d-le (b .size), b .small), omega (arith, p .lane-in, d-le (b .size), b .small))
 
 add-row : tie.Need-add-row Inv-loop μ-loop
 add-row c =
     let l = c .before .before .before .before .before .before in
     let b = l .before .before .before .before .before .pre in
-    omega (arith, row-in b (l .before .before .before .least .ensures) (l .before .loop .inv) (l .loop-test .taken) (c .before .before .before .before .before .least2 .ensures), d-le (b .size), b .small)
+    let p = part (l .before .loop .inv) (l .loop-test .taken) (c .before .before .before .before .before .least2 .ensures) (rows-whole (b .size)) (l .before .before .before .least .ensures) in
+    omega (arith, p .lane-in, d-le (b .size), b .small)
 
 loop-less : tie.Need-loop-less Inv-loop μ-loop
 loop-less c =
     let l = c .before .before .before .before .before .before in
     let q = c .before .before .before .before .before .least2 .ensures in
-    omega (arith, l .loop-test .taken, q, stop-more (l .before .before .before .before .before .pre) (l .before .before .before .least .ensures) (l .before .loop .inv) (l .loop-test .taken) q)
+    omega (arith, l .loop-test .taken, q, l .before .loop .inv .inside (l .loop-test .taken))
 
 loop-again : tie.Need-loop-again Inv-loop μ-loop
 loop-again c =
     let l = c .before .before .before .before .before .before in
     let b = l .before .before .before .before .before .pre in
-    let q = c .before .before .before .before .before .least2 .ensures in
-    rows-next b (l .before .before .before .least .ensures) (l .before .loop .inv) (l .loop-test .taken) q (c .before .before .before .along .ensures)
-    (c .next-row .ensures _ _ (b .size) refl)
+    lanes-next (l .before .loop .inv) (l .loop-test .taken) (c .before .before .before .before .before .least2 .ensures) (c .before .before .before .along .ensures) (c .next-row .ensures _ _ (b .size) refl)
 
 same-length : tie.Need-same-length Inv-loop μ-loop
 same-length c = c .before .loop .inv .filled .long
