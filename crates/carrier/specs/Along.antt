@@ -8,7 +8,7 @@ use lib.ListN.{set}
 use Rattle.laws.specs.Digits.{high-below}
 use Rattle.laws.specs.Sized.{Sized, row-pos, row-whole, group-le, s-le-row}
 use Rattle.laws.specs.Lanes.{Going, going-first, going-next, Lanewise, Part}
-use Rattle.carrier.specs.declared.RowSpot.{RowSpot}
+use Rattle.carrier.specs.declared.row.RowSpot.{RowSpot}
 use Rattle.carrier.specs.Formula.{carrierL}
 use Rattle.carrier.specs.Once.{carrier-once}
 use Rattle.carrier.specs.Block.{Block}

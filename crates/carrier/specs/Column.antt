@@ -6,7 +6,7 @@ use native.Mathlib.Nat.{mod-lt, mod-le, mul-zero, mul-le-mul-left, mul-add-mod-s
 use native.Mathlib.Omega.{arith}
 use Rattle.laws.specs.Digits.{high-below}
 use Rattle.laws.specs.Sized.{Sized, groups-pos, row-length, row-whole, d-le}
-use Rattle.carrier.specs.declared.ColumnSpot.{ColumnSpot}
+use Rattle.carrier.specs.declared.column.ColumnSpot.{ColumnSpot}
 use Rattle.carrier.specs.Formula.{carrierM}
 use Rattle.carrier.specs.Laws.{M-digits}
 

@@ -8,7 +8,7 @@ use lib.ListN.{set}
 use Rattle.laws.specs.Digits.{high-below}
 use Rattle.laws.specs.Sized.{Sized, row-pos, row-whole, d-le}
 use Rattle.laws.specs.Lanes.{Going, going-first, going-next, Lanewise, Part}
-use Rattle.carrier.specs.declared.ColumnSpot.{ColumnSpot}
+use Rattle.carrier.specs.declared.column.ColumnSpot.{ColumnSpot}
 use Rattle.carrier.specs.Formula.{carrierM}
 use Rattle.carrier.specs.Once.{carrier-once}
 use Rattle.carrier.specs.Block.{Block}

@@ -6,7 +6,7 @@ use native.Mathlib.Nat.{mod-add-mod, mod-lt, mod-le, mod-self, mod-eq-of-lt, mul
 use native.Mathlib.Omega.{arith}
 use Rattle.laws.specs.Digits.{high-below}
 use Rattle.laws.specs.Sized.{Sized, groups-pos, row-length, row-pos, row-whole}
-use Rattle.carrier.specs.declared.RowSpot.{RowSpot}
+use Rattle.carrier.specs.declared.row.RowSpot.{RowSpot}
 use Rattle.carrier.specs.Formula.{carrierL}
 use Rattle.carrier.specs.Laws.{L-digits}
 
