@@ -112,7 +112,9 @@ pub fn address(d: usize, n: usize, s: usize, k: usize) -> usize
     ensures { λ r. ⌜ r ≡ carrierM d n s k ⌝ }
 {
     let c = n / d;
-    ColumnSpot::new(c, n, s, k / d, k % d).address()
+    let col = k / d;
+    let row = k % d;
+    ColumnSpot::new(c, n, s, col, row).address()
 }
 
 // Writes M from a cell on, as far as there is room and cells; gives back how many.

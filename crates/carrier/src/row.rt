@@ -112,7 +112,9 @@ pub fn address(d: usize, n: usize, s: usize, t: usize) -> usize
     ensures { λ r. ⌜ r ≡ carrierL d n s t ⌝ }
 {
     let c = n / d;
-    RowSpot::new(d, s, t / c, t % c).address()
+    let row = t / c;
+    let col = t % c;
+    RowSpot::new(d, s, row, col).address()
 }
 
 // Writes L from a cell on, as far as there is room and cells; gives back how many.

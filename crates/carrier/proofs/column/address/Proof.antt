@@ -8,11 +8,11 @@ use Rattle.carrier.proofs.column.address.Tie as tie
 div-c : tie.Need-div-c
 div-c c = search needs
 
-div-new : tie.Need-div-new
-div-new c = search needs
+div-col : tie.Need-div-col
+div-col c = search needs
 
-rem-new : tie.Need-rem-new
-rem-new c = search needs
+rem-row : tie.Need-rem-row
+rem-row c = search needs
 
 new-requires : tie.Need-new-requires
 new-requires c κs = set-up (c .pre .0)
@@ -24,4 +24,4 @@ returns : tie.Need-returns
 returns c = c .address .ensures ∙ spot-address (c .before .before .pre .0) (c .before .before .pre .1) (c .before .new .ensures)
 
 pub address-spec : {M : Type 1} → statement M
-address-spec = tie.close (tie.spec div-c div-new rem-new new-requires address-requires returns)
+address-spec = tie.close (tie.spec div-c div-col rem-row new-requires address-requires returns)

@@ -9,11 +9,11 @@ use Rattle.carrier.proofs.row.address.Tie as tie
 div-c : tie.Need-div-c
 div-c c = search needs
 
-div-new : tie.Need-div-new
-div-new c = row-pos (c .pre .0 .size)
+div-row : tie.Need-div-row
+div-row c = row-pos (c .pre .0 .size)
 
-rem-new : tie.Need-rem-new
-rem-new c = row-pos (c .pre .0 .size)
+rem-col : tie.Need-rem-col
+rem-col c = row-pos (c .pre .0 .size)
 
 new-requires : tie.Need-new-requires
 new-requires c κs = set-up (c .pre .0)
@@ -25,4 +25,4 @@ returns : tie.Need-returns
 returns c = c .address .ensures ∙ spot-address (c .before .before .pre .0) (c .before .before .pre .1) (c .before .new .ensures)
 
 pub address-spec : {M : Type 1} → statement M
-address-spec = tie.close (tie.spec div-c div-new rem-new new-requires address-requires returns)
+address-spec = tie.close (tie.spec div-c div-row rem-col new-requires address-requires returns)
