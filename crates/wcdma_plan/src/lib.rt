@@ -1,0 +1,1 @@
+// The plan of a block: the rectangle, its numbers and its row orders.
