@@ -7,3 +7,4 @@ pub mod Euclid
 pub mod Primes
 pub mod Roots
 pub mod Found
+pub mod Post

@@ -107,7 +107,7 @@ next-is m last h =
       alone = eqb-true (gcd m (nextQ m last)) 1 (s .1);
       least = λ x b c p g.
           let n : ¬ (x < nextQ m last) = λ l.
-              true≢false (sym (fits x p g) ∙ next-least m (suc (above last)) (89 - above last) x (above-least last x b c) l) in
+          true≢false (sym (fits x p g) ∙ next-least m (suc (above last)) (89 - above last) x (above-least last x b c) l) in
           omega arith;
     }
   where
