@@ -25,9 +25,15 @@ element-write-q c = search needs
 
 loop-holds : tie.Need-loop-holds Inv-loop μ-loop
 unfolding qOf
-loop-holds c =
-    (omega arith, omega (arith, c .pre .some), simp length-set (c .pre .long),
-      (λ y h. let e : y ≡ 0 = omega arith in rw e (getD-set-same (c .args .q .now) 0 1 0 (omega (arith, c .pre .long)))), refl, refl, refl)
+loop-holds c = (
+  omega arith,
+  omega (arith, c .pre .some),
+  simp length-set (c .pre .long),
+  (λ y h. let e : y ≡ 0 = omega arith in rw e (getD-set-same (c .args .q .now) 0 1 0 (omega (arith, c .pre .long)))),
+  refl,
+  refl,
+  refl,
+)
 
 next-q-requires : tie.Need-next-q-requires Inv-loop μ-loop
 next-q-requires c κs = c .before .loop .inv .5

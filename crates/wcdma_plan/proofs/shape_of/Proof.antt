@@ -42,14 +42,16 @@ root-at-requires c κs = search needs
 
 returns : tie.Need-returns
 returns c =
-    let b = c .before .before in
-    (refl, record {
-      size = b .before .before .before .before .before .pre;
-      rows-is = b .before .before .before .before .rows-of .ensures;
-      prime-is = prime-here b;
-      cols-is = c .before .cols-of .ensures;
-      root-is = c .root-at .ensures ∙ ap root (b .before .prime-place .ensures .prime-is);
-    })
+    let b = c .before .before in (
+      refl,
+      record {
+        size = b .before .before .before .before .before .pre;
+        rows-is = b .before .before .before .before .rows-of .ensures;
+        prime-is = prime-here b;
+        cols-is = c .before .cols-of .ensures;
+        root-is = c .root-at .ensures ∙ ap root (b .before .prime-place .ensures .prime-is);
+      },
+    )
 
 pub shape-of-spec : {M : Type 1} → statement M
 shape-of-spec =
