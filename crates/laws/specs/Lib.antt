@@ -14,3 +14,4 @@ pub mod Units
 pub mod Once
 pub mod Position
 pub mod Written
+pub mod Entries

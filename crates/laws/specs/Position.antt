@@ -79,14 +79,14 @@ kept-perm f n range apart k h =
 
 -- looking for a place from the front, entry after entry
 module _ (a : ℕ) (l : List ℕ) (i : ℕ) where
-  pub found-here : i < length l → getD l i 0 ≡ a → position a (drop i l) ≡ 0
+  pub position-here : i < length l → getD l i 0 ≡ a → position a (drop i l) ≡ 0
   unfolding position
-  found-here h e = rw (drop-cons l i 0 h) (rw (eq-eqb a (getD l i 0) (sym e)))
+  position-here h e = rw (drop-cons l i 0 h) (rw (eq-eqb a (getD l i 0) (sym e)))
 
-  pub found-later : i < length l → (getD l i 0 ≡ a → ⊥) → position a (drop i l) ≡ 1 + position a (drop (i + 1) l)
+  pub position-later : i < length l → (getD l i 0 ≡ a → ⊥) → position a (drop i l) ≡ 1 + position a (drop (i + 1) l)
   unfolding position
-  found-later h n = rw (drop-cons l i 0 h, add-one) (rw (ne-eqb a (getD l i 0) (λ e. n (sym e))) (omega arith))
+  position-later h n = rw (drop-cons l i 0 h, add-one) (rw (ne-eqb a (getD l i 0) (λ e. n (sym e))) (omega arith))
 
-  pub found-end : i ≡ length l → position a (drop i l) ≡ 0
+  pub position-end : i ≡ length l → position a (drop i l) ≡ 0
   unfolding position
-  found-end e = rw (e, drop-length)
+  position-end e = rw (e, drop-length)

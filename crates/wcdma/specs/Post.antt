@@ -1,6 +1,6 @@
 -- What the functions of the walk are given and ensure, part by part. Rests on Turbo and Written. Assumes nothing: these are definitions.
 use Prim.Native.Nat.{ℕ, _+_, _*_, _-_, _%_, _<_, _≤_}
-use mathlib.Core.Bool.{cond}
+use mathlib.Core.Bool.{Bool, true, not, cond}
 use mathlib.Core.List.{List}
 use mathlib.Core.Path.{_≡_}
 use lib.Dec.{ltb, eqb}
@@ -10,7 +10,7 @@ use Rattle.laws.specs.Written.{Written}
 use Rattle.wcdma_plan.specs.declared.Shape.{Shape}
 use Rattle.wcdma_plan.specs.Rectangle.{Size, rows, prime, cols, cells}
 use Rattle.wcdma_plan.specs.Powers.{power, root}
-use Rattle.wcdma_plan.specs.Numbers.{qOf}
+use Rattle.wcdma_plan.specs.Numbers.{qOf, searchFails}
 use Rattle.wcdma_plan.specs.Orders.{rowAt}
 use Rattle.wcdma_plan.specs.Post.{ShapeOf, shortBy}
 use Rattle.wcdma.specs.declared.TurboWalk.{TurboWalk}
@@ -42,9 +42,27 @@ pub record Rows (k : ℕ) (base fall : List ℕ) : Type 0 where
   pub bases : (x : ℕ) → x < rows k → getD base x 0 ≡ rowAt k x * cols k
   pub falls : (x : ℕ) → x < rows k → getD fall x 0 ≡ prime k - 1 - qOf (prime k - 1) x % (prime k - 1)
 
+-- the search for q: whether it succeeds, and then the numbers
+pub record SearchIn (z : Shape) (q : List ℕ) : Type 0 where
+  pub shape : ShapeOf z
+  pub long : length q ≡ 20
+
+abbrev pub NumbersAre : ℕ → List ℕ → Type 0
+NumbersAre k q = (x : ℕ) → x < rows k → getD q x 0 ≡ qOf (prime k - 1) x
+
+pub record SearchOf (k : ℕ) (q : List ℕ) (found : Bool) : Type 0 where
+  pub says : not found ≡ searchFails k
+  pub numbers : found ≡ true → NumbersAre k q
+
+-- what a walk is given once the numbers are found
+pub record ByIn (z : Shape) (q : List ℕ) (cell : ℕ) : Type 0 where
+  pub shape : ShapeOf z
+  pub numbers : NumbersAre (z .k) q
+  pub within : cell ≤ cells (z .k)
+
 pub record LayIn (z : Shape) (q : List ℕ) (j : ℕ) (base fall at : List ℕ) : Type 0 where
   pub shape : ShapeOf z
-  pub numbers : (x : ℕ) → x < rows (z .k) → getD q x 0 ≡ qOf (prime (z .k) - 1) x
+  pub numbers : NumbersAre (z .k) q
   pub column : j ≤ 300
   pub base-long : length base ≡ 20
   pub fall-long : length fall ≡ 20

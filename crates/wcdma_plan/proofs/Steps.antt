@@ -1,24 +1,13 @@
 -- One turn of the loops that make S and q. Assumes nothing.
 use Prim.Native.Nat.{ℕ, zero, suc, _+_, _*_, _-_, _%_, _≤_, _<_}
 use mathlib.Core.Bool.{Bool, true, false, not, _||_, false≢true}
-use mathlib.Core.List.{List}
 use mathlib.Core.Path.{_≡_, refl, ap, sym, _∙_}
-use mathlib.Core.Logic.{⊎-elim}
-use native.Mathlib.Nat.{eq-or-lt-of-le}
 use native.Mathlib.Omega.{arith}
 use native.Mathlib.Numerals.{add-one}
 use lib.Dec.{eqb}
-use lib.ListN.{getD, set, length}
-use lib.Seq.{getD-set-same, getD-set-other}
 use borrow.Author.Tests.{eq-eqb, ne-eqb, eqb-true}
 use Rattle.wcdma_plan.specs.Powers.{power, isSix}
 use Rattle.wcdma_plan.specs.Numbers.{nextQ, qOf, allFound}
-
--- a list that holds f below i, with f i put at i, holds f below i + 1
-pub fill-more : (f : ℕ → ℕ) (s : List ℕ) (i v : ℕ) → i < length s → v ≡ f i → ((y : ℕ) → y < i → getD s y 0 ≡ f y) → (y : ℕ) → y < i + 1 → getD (set s i v) y 0 ≡ f y
-fill-more f s i v h e g y l =
-    ⊎-elim (λ (q : y ≡ i). rw q (getD-set-same s i v 0 h ∙ e)) (λ q. getD-set-other s i y v 0 (λ w. omega arith) ∙ g y q)
-    (eq-or-lt-of-le {n = y} {m = i} (omega arith))
 
 pub power-next : (p v x last : ℕ) → last ≡ power p v x → v * last % p ≡ power p v (x + 1)
 unfolding power

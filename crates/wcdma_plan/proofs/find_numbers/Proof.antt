@@ -7,7 +7,8 @@ use lib.Seq.{getD-set-same}
 use mathlib.Core.Bool.{false≢true}
 use mathlib.Core.Path.{_∙_, _≡_, ap, refl, sym}
 use native.Mathlib.Omega.{arith}
-use Rattle.wcdma_plan.proofs.Steps.{fill-more, found-end, found-not, found-step, q-next}
+use Rattle.laws.specs.Entries.{fill-more}
+use Rattle.wcdma_plan.proofs.Steps.{found-end, found-not, found-step, q-next}
 use Rattle.wcdma_plan.specs.Numbers.{allFound, qOf}
 use Rattle.wcdma_plan.proofs.find_numbers.Statement.{statement}
 use Rattle.wcdma_plan.proofs.find_numbers.Tie as tie

@@ -6,7 +6,8 @@ use lib.ListN.{getD, length, length-set}
 use mathlib.Core.Path.{_∙_, _≡_, ap, refl}
 use native.Mathlib.Nat.{mod-lt}
 use native.Mathlib.Omega.{arith}
-use Rattle.wcdma_plan.proofs.Steps.{fill-more, power-next}
+use Rattle.laws.specs.Entries.{fill-more}
+use Rattle.wcdma_plan.proofs.Steps.{power-next}
 use Rattle.wcdma_plan.specs.Powers.{power}
 use Rattle.wcdma_plan.proofs.powers.Statement.{statement}
 use Rattle.wcdma_plan.proofs.powers.Tie as tie

@@ -16,8 +16,8 @@ use Rattle.wcdma.proofs.Place.{Place, column-le, exponents-to, exponent
 use Rattle.wcdma.specs.Post.{Exponents}
 use Rattle.wcdma.specs.Turbo.{address, walkCells, walkList}
 use Rattle.wcdma.specs.declared.TurboWalk.the-variants.{Went}
-use Rattle.wcdma.proofs.fill.Statement.{statement}
-use Rattle.wcdma.proofs.fill.Tie as tie
+use Rattle.wcdma.proofs.cells.fill.Statement.{statement}
+use Rattle.wcdma.proofs.cells.fill.Tie as tie
 
 abbrev Inv-loop : tie.InvT-loop
 Inv-loop shape cell row column s base fall e₀ out₀ r total i₀ j₀ here₀ n₀ e out i j here n = Place (shape .k) here i j × Exponents (shape .k) i j e × Written (address (shape .k)) (inside (shape .k)) (cells (shape .k)) cell out₀ here out n

@@ -11,8 +11,8 @@ use Rattle.wcdma.proofs.Place.{exponents-down}
 use Rattle.wcdma.specs.Law.{address-lt}
 use Rattle.wcdma.specs.Post.{Exponents}
 use Rattle.wcdma.specs.Turbo.{address}
-use Rattle.wcdma.proofs.one_cell.Statement.{statement}
-use Rattle.wcdma.proofs.one_cell.Tie as tie
+use Rattle.wcdma.proofs.cells.one_cell.Statement.{statement}
+use Rattle.wcdma.proofs.cells.one_cell.Tie as tie
 
 abbrev start : tie.After-entry-at → tie.Start
 start c = c .before .before .before .before .before

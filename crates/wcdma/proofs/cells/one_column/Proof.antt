@@ -8,8 +8,8 @@ use Rattle.wcdma_plan.specs.Rectangle.{rows}
 use Rattle.wcdma_plan.specs.Shape.{rows-le}
 use Rattle.wcdma.proofs.Place.{exponents-top}
 use Rattle.wcdma.specs.Post.{Exponents, Goes}
-use Rattle.wcdma.proofs.one_column.Statement.{statement}
-use Rattle.wcdma.proofs.one_column.Tie as tie
+use Rattle.wcdma.proofs.cells.one_column.Statement.{statement}
+use Rattle.wcdma.proofs.cells.one_column.Tie as tie
 
 abbrev Inv-loop : tie.InvT-loop
 Inv-loop shape j s base fall e₀ out₀ n r i₀ w₀ e out i w =

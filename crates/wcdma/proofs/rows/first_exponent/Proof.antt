@@ -4,8 +4,8 @@ use borrow.Author.Needs.{needs}
 use borrow.Author.Tests.{le-ltb, lt-ltb}
 use native.Mathlib.Nat.{mul-le-mul}
 use native.Mathlib.Omega.{arith}
-use Rattle.wcdma.proofs.first_exponent.Statement.{statement}
-use Rattle.wcdma.proofs.first_exponent.Tie as tie
+use Rattle.wcdma.proofs.rows.first_exponent.Statement.{statement}
+use Rattle.wcdma.proofs.rows.first_exponent.Tie as tie
 
 add-result : tie.Need-add-result
 add-result c = search needs

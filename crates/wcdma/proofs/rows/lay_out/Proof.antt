@@ -6,7 +6,7 @@ use lib.ListN.{getD, length, length-set}
 use mathlib.Core.Path.{_∙_, _≡_}
 use native.Mathlib.Nat.{mod-lt}
 use native.Mathlib.Omega.{arith}
-use Rattle.wcdma_plan.proofs.Steps.{fill-more}
+use Rattle.laws.specs.Entries.{fill-more}
 use Rattle.wcdma_plan.specs.Numbers.{qOf}
 use Rattle.wcdma_plan.specs.Orders.{rowAt}
 use Rattle.wcdma_plan.specs.Rectangle.{cols, prime, rows}
@@ -14,8 +14,8 @@ use Rattle.wcdma_plan.specs.Shape.{cols-high, prime-big, prime-small, product-s
 use Rattle.wcdma.proofs.Place.{fall-is, start-is}
 use Rattle.wcdma.specs.Law.{row-lt}
 use Rattle.wcdma.specs.Post.{LayIn, nextCol}
-use Rattle.wcdma.proofs.lay_out.Statement.{statement}
-use Rattle.wcdma.proofs.lay_out.Tie as tie
+use Rattle.wcdma.proofs.rows.lay_out.Statement.{statement}
+use Rattle.wcdma.proofs.rows.lay_out.Tie as tie
 
 abbrev Inv-loop : tie.InvT-loop
 Inv-loop q i j base₀ fall₀ at₀ k r c m order x₀ base fall at x =

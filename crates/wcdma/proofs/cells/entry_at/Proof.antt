@@ -1,8 +1,8 @@
 -- `entry_at` is U(j), case by case. Assumes nothing.
 use borrow.Author.Needs.{needs}
 use borrow.Author.Tests.{eq-eqb, le-ltb, lt-ltb, ne-eqb}
-use Rattle.wcdma.proofs.entry_at.Statement.{statement}
-use Rattle.wcdma.proofs.entry_at.Tie as tie
+use Rattle.wcdma.proofs.cells.entry_at.Statement.{statement}
+use Rattle.wcdma.proofs.cells.entry_at.Tie as tie
 
 sub-if1 : tie.Need-sub-if1
 sub-if1 c = search needs

@@ -4,8 +4,8 @@ use borrow.Author.Needs.{needs}
 use mathlib.Core.Path.{_∙_, _≡_, ap, sym}
 use native.Mathlib.Nat.{add-mod-right, mod-eq-of-lt}
 use native.Mathlib.Omega.{arith}
-use Rattle.wcdma.proofs.bump.Statement.{statement}
-use Rattle.wcdma.proofs.bump.Tie as tie
+use Rattle.wcdma.proofs.cells.bump.Statement.{statement}
+use Rattle.wcdma.proofs.cells.bump.Tie as tie
 
 add-result : tie.Need-add-result
 add-result c = search needs
