@@ -9,3 +9,9 @@ pub mod Perm
 pub mod Move
 pub mod Keep
 pub mod Cut
+pub mod Span
+pub mod Units
+pub mod Once
+pub mod Position
+pub mod Written
+pub mod Entries

@@ -1,0 +1,6 @@
+pub mod Turbo
+pub mod Row
+pub mod Law
+pub mod Pads
+pub mod Answers
+pub mod Post

@@ -1,0 +1,122 @@
+-- What the functions of the walk are given and ensure, part by part. Rests on Turbo and Written. Assumes nothing: these are definitions.
+use Prim.Native.Nat.{ℕ, _+_, _*_, _-_, _%_, _<_, _≤_}
+use mathlib.Core.Bool.{Bool, true, not, cond}
+use mathlib.Core.List.{List}
+use mathlib.Core.Path.{_≡_}
+use lib.Dec.{ltb, eqb}
+use lib.ListN.{getD, length}
+use Rattle.laws.specs.Once.{inside}
+use Rattle.laws.specs.Written.{Written}
+use Rattle.wcdma_plan.specs.declared.Shape.{Shape}
+use Rattle.wcdma_plan.specs.Rectangle.{Size, rows, prime, cols, cells}
+use Rattle.wcdma_plan.specs.Powers.{power, root}
+use Rattle.wcdma_plan.specs.Numbers.{qOf, searchFails}
+use Rattle.wcdma_plan.specs.Orders.{rowAt}
+use Rattle.wcdma_plan.specs.Post.{ShapeOf, shortBy}
+use Rattle.wcdma.specs.declared.TurboWalk.{TurboWalk}
+use Rattle.wcdma.specs.declared.TurboWalk.the-variants.{Went}
+use Rattle.wcdma.specs.Turbo.{address, walkList, walkCells}
+use Rattle.wcdma.specs.Answers.{walkSlice}
+
+-- a size, and a cell of its rectangle or the end
+pub record WalkIn (k cell : ℕ) : Type 0 where
+  pub size : Size k
+  pub within : cell ≤ cells k
+
+-- a size, and a number below it
+pub record OneIn (k x : ℕ) : Type 0 where
+  pub size : Size k
+  pub below : x < k
+
+-- the column that comes next in row x, where the walk stands at row i of column j
+abbrev pub nextCol : ℕ → ℕ → ℕ → ℕ
+nextCol i j x = cond (ltb x i) (j + 1) j
+
+-- the exponents of the rows there
+pub record Exponents (k i j : ℕ) (at : List ℕ) : Type 0 where
+  pub long : length at ≡ 20
+  pub each : (x : ℕ) → x < rows k → getD at x 0 ≡ nextCol i j x * qOf (prime k - 1) x % (prime k - 1)
+
+-- where each row begins, and by how much its exponent falls from column to column: p - 1 less q mod (p - 1)
+pub record Rows (k : ℕ) (base fall : List ℕ) : Type 0 where
+  pub bases : (x : ℕ) → x < rows k → getD base x 0 ≡ rowAt k x * cols k
+  pub falls : (x : ℕ) → x < rows k → getD fall x 0 ≡ prime k - 1 - qOf (prime k - 1) x % (prime k - 1)
+
+-- the search for q: whether it succeeds, and then the numbers
+pub record SearchIn (z : Shape) (q : List ℕ) : Type 0 where
+  pub shape : ShapeOf z
+  pub long : length q ≡ 20
+
+abbrev pub NumbersAre : ℕ → List ℕ → Type 0
+NumbersAre k q = (x : ℕ) → x < rows k → getD q x 0 ≡ qOf (prime k - 1) x
+
+pub record SearchOf (k : ℕ) (q : List ℕ) (found : Bool) : Type 0 where
+  pub says : not found ≡ searchFails k
+  pub numbers : found ≡ true → NumbersAre k q
+
+-- what a walk is given once the numbers are found
+pub record ByIn (z : Shape) (q : List ℕ) (cell : ℕ) : Type 0 where
+  pub shape : ShapeOf z
+  pub numbers : NumbersAre (z .k) q
+  pub within : cell ≤ cells (z .k)
+
+pub record LayIn (z : Shape) (q : List ℕ) (j : ℕ) (base fall at : List ℕ) : Type 0 where
+  pub shape : ShapeOf z
+  pub numbers : NumbersAre (z .k) q
+  pub column : j ≤ 300
+  pub base-long : length base ≡ 20
+  pub fall-long : length fall ≡ 20
+  pub at-long : length at ≡ 20
+
+-- S, each power less what a column's number is less, with the rows
+pub record Tables (k : ℕ) (s base fall : List ℕ) : Type 0 where
+  pub powers : (x : ℕ) → x < prime k - 1 → getD s x 0 ≡ power (prime k) (root (prime k)) x - shortBy (cols k) (prime k)
+  pub rows-are : Rows k base fall
+
+-- U(j) where s is what the table has for it
+abbrev pub entryAt : ℕ → ℕ → ℕ → ℕ
+entryAt p s j = cond (ltb j (p - 1)) s (cond (eqb j (p - 1)) 0 p)
+
+-- a walk that stood at cell c, with n addresses in the slice, stands at another, whatever it began with
+abbrev pub Goes : ℕ → ℕ → List ℕ → ℕ → ℕ → List ℕ → ℕ → Type 0
+Goes k c out n c' out' n' =
+    (c₀ : ℕ) (o : List ℕ) → Written (address k) (inside k) (cells k) c₀ o c out n → Written (address k) (inside k) (cells k) c₀ o c' out' n'
+
+pub record CellIn (z : Shape) (i j n : ℕ) (s base fall e out : List ℕ) : Type 0 where
+  pub shape : ShapeOf z
+  pub tables : Tables (z .k) s base fall
+  pub row : i < rows (z .k)
+  pub column : j < cols (z .k)
+  pub exponents : Exponents (z .k) i j e
+  pub room : n < length out
+
+pub record CellOf (k i j n : ℕ) (e out out' : List ℕ) (w : ℕ) : Type 0 where
+  pub exponents : Exponents k (i + 1) j e
+  pub goes : Goes k (j * rows k + i) out n (j * rows k + i + 1) out' w
+  pub most : w ≤ n + 1
+  pub same : length out' ≡ length out
+
+pub record ColumnIn (z : Shape) (j n : ℕ) (s base fall e out : List ℕ) : Type 0 where
+  pub shape : ShapeOf z
+  pub tables : Tables (z .k) s base fall
+  pub column : j < cols (z .k)
+  pub exponents : Exponents (z .k) 0 j e
+  pub room : n + z .r ≤ length out
+
+pub record ColumnOf (k j n : ℕ) (e out out' : List ℕ) (w : ℕ) : Type 0 where
+  pub exponents : Exponents k 0 (j + 1) e
+  pub goes : Goes k (j * rows k) out n (j * rows k + rows k) out' w
+  pub same : length out' ≡ length out
+
+pub record FillIn (z : Shape) (cell i j : ℕ) (s base fall e : List ℕ) : Type 0 where
+  pub shape : ShapeOf z
+  pub tables : Tables (z .k) s base fall
+  pub within : cell ≤ cells (z .k)
+  pub place : cell ≡ j * rows (z .k) + i
+  pub row : i < rows (z .k)
+  pub exponents : Exponents (z .k) i j e
+
+-- the walk is done: its answer and the slice
+pub record WentOf (k cell : ℕ) (old new : List ℕ) (r : TurboWalk) : Type 0 where
+  pub answer : r ≡ Went (length (walkList k cell (length old))) (walkCells k cell (length old))
+  pub slice : new ≡ walkSlice k cell old

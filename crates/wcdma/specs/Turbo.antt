@@ -1,0 +1,51 @@
+-- The WCDMA turbo interleaver, 3GPP TS 25.212 4.2.3.2.3: the address of each cell of the rectangle, and the lists L and M of a block of K
+-- symbols. Rests on the plan. Assumes nothing: these are definitions.
+use Prim.Native.Nat.{ℕ, _+_, _*_, _-_, _/_, _%_}
+use mathlib.Core.Bool.{cond}
+use mathlib.Core.List.{List}
+use lib.Dec.{ltb, eqb}
+use lib.ListN.{getD}
+use Rattle.laws.specs.Keep.{keep, wrote, steps, padding}
+use Rattle.laws.specs.Once.{inside}
+use Rattle.laws.specs.Position.{position}
+use Rattle.wcdma_plan.specs.Rectangle.{rows, prime, cols, cells}
+use Rattle.wcdma_plan.specs.Powers.{power, root}
+use Rattle.wcdma_plan.specs.Numbers.{qOf}
+use Rattle.wcdma_plan.specs.Orders.{rowAt}
+
+-- U(j) where s is the power that belongs to column j: s - 1 if C = p - 1; else s for j < p - 1, 0 for j = p - 1, p for j = p
+abbrev pub entryWith : ℕ → ℕ → ℕ → ℕ → ℕ
+entryWith p c s j = cond (eqb c (p - 1)) (s - 1) (cond (ltb j (p - 1)) s (cond (eqb j (p - 1)) 0 p))
+
+-- U(j) in a row with the number q: the power is S(j·q mod (p - 1))
+unfoldable pub entry : ℕ → ℕ → ℕ → ℕ → ℕ → ℕ
+entry p v c q j = entryWith p c (power p v (j * q % (p - 1))) j
+
+-- the address of a cell, row i of column j: T(i)·C + U(j). Cells are counted down the columns
+unfoldable pub address : ℕ → ℕ → ℕ
+address k n =
+    rowAt k (n % rows k) * cols k + entry (prime k) (root (prime k)) (cols k) (qOf (prime k - 1) (n % rows k)) (n / rows k)
+
+-- the addresses of all cells but the padding, in the order of the cells
+unfoldable pub addresses : ℕ → List ℕ
+addresses k = keep (address k) (inside k) 0 (cells k)
+
+-- L: output t holds input L(t)
+unfoldable pub turboL : ℕ → ℕ → ℕ
+turboL k t = getD (addresses k) t 0
+
+-- M: input a goes to output M(a), its place in L
+unfoldable pub turboM : ℕ → ℕ → ℕ
+turboM k a = position a (addresses k)
+
+-- a walk from a cell, with room for so many addresses: what it writes
+unfoldable pub walkList : ℕ → ℕ → ℕ → List ℕ
+walkList k cell room = wrote (address k) (inside k) cell (cells k - cell) room
+
+-- and the cells it examines
+unfoldable pub walkCells : ℕ → ℕ → ℕ → ℕ
+walkCells k cell room = steps (address k) (inside k) cell (cells k - cell) room
+
+-- how many of its cells are padding
+unfoldable pub padCells : ℕ → ℕ
+padCells k = padding (address k) (inside k) 0 (cells k)

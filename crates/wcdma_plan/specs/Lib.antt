@@ -1,0 +1,10 @@
+pub mod Rectangle
+pub mod Powers
+pub mod Numbers
+pub mod Orders
+pub mod Shape
+pub mod Euclid
+pub mod Primes
+pub mod Roots
+pub mod Found
+pub mod Post
