@@ -15,3 +15,4 @@ pub mod Once
 pub mod Position
 pub mod Written
 pub mod Entries
+pub mod Bare

@@ -149,3 +149,23 @@ buffer-kept ls k new old f = rw (stopped-first ls k f)
 
 pub buffer-new : {B : Type 0} (ls : List Line) (new old : B) → Clear ls → after ls new old ≡ new
 buffer-new ls new old c = rw (clear-first ls c)
+
+-- lines in front that refuse, refuse for all that stand behind them
+module _ {R A : Type 0} (give : ℕ → R) (a : A) (ls ms : List Line) {r : R} (e : judged give ls a ≡ refused r) where
+  pub refused-front : {B : Type 0} (b : B) → judged give (ls ++ ms) b ≡ refused r
+  refused-front b = go (first ls) refl e
+    where
+      go : (x : Ruling) → first ls ≡ x → settle x (λ k. refused (give k)) (done a) ≡ refused r → judged give (ls ++ ms) b ≡ refused r
+      go clear q e = let z : _≡_ {A = ℕ} 0 1 = cc in absurd (omega arith)
+      go (stopped k) q e = rw (stopped-front ls ms k q) (let z : give k ≡ r = cc in ap refused z)
+
+  pub kept-front : {B : Type 0} (new old : B) → after (ls ++ ms) new old ≡ old
+  kept-front new old = go (first ls) refl e
+    where
+      go : (x : Ruling) → first ls ≡ x → settle x (λ k. refused (give k)) (done a) ≡ refused r → after (ls ++ ms) new old ≡ old
+      go clear q e = let z : _≡_ {A = ℕ} 0 1 = cc in absurd (omega arith)
+      go (stopped k) q e = rw (stopped-front ls ms k q)
+
+-- lines in front that are clear leave it to those behind
+pub done-front : {R A : Type 0} (give : ℕ → R) (a b : A) (ls ms : List Line) → judged give ls a ≡ done b → first (ls ++ ms) ≡ first ms
+done-front give a b ls ms e = clear-then ls ms (clear-first ls (done-clear give a ls b e .0))

@@ -1,15 +1,16 @@
--- Every accepted set of a carrier profile is a block that the carrier laws hold for: N is a positive multiple of d, and N/d one of s.
--- Computed over the 307 carrier sets of the table. Assumes nothing.
+-- What an accepted set is. Of a carrier profile: a block that the carrier laws hold for, N a positive multiple of d and N/d one of s,
+-- computed over the 307 carrier sets of the table. Of profile 5: a size from 40 to 5,114. Assumes nothing.
 use mathlib.Core.Path.{_≡_, refl, sym, ap, _∙_}
-use mathlib.Core.Bool.{Bool, true, _&&_}
+use mathlib.Core.Bool.{Bool, true, false, not, _&&_, false≢true}
 use mathlib.Core.Logic.{_≢_, ⊎-elim}
 use mathlib.Core.List.{List, List·Memᴰ, List·Memᴰ·append-cases, Memᴰ·of-map}
 use Prim.Native.Nat.{ℕ, _+_, _*_, _/_, _%_, _≤_, _<_}
 use native.Mathlib.Nat.{div-add-mod}
 use native.Mathlib.Omega.{arith}
 use lib.Dec.{leb, ltb, eqb}
-use borrow.Author.Tests.{leb-true, ltb-true, eqb-true}
+use borrow.Author.Tests.{leb-true, ltb-true, eqb-true, eq-eqb}
 use Rattle.laws.specs.Outcome.{done}
+use Rattle.laws.specs.Run.{mem-run}
 use Rattle.laws.specs.Table.{both, every, at-each}
 use Rattle.laws.specs.Sized.{Sized}
 use Rattle.sets.specs.declared.Set.{Set}
@@ -26,9 +27,16 @@ pub record Carried (s : Set) : Type 0 where
 divides : Set → Bool
 divides s = ltb 0 (rowsOf s) && (ltb 0 (groupOf s) && (ltb 0 (s .n) && (eqb (s .n % (rowsOf s * groupOf s)) 0 && leb (s .n) 1536)))
 
+not-turbo : Set → Bool
+not-turbo s = not (eqb (s .profile) 5)
+
 all-divide : every divides (setsOf carriers) ≡ true
 unfolding divides carriers ofdm ofdma wlan bench rowsOf groupOf
 all-divide = refl
+
+none-turbo : every not-turbo (setsOf carriers) ≡ true
+unfolding not-turbo carriers ofdm ofdma wlan bench
+none-turbo = refl
 
 carried-by : (s : Set) → divides s ≡ true → Carried s
 unfolding divides
@@ -53,4 +61,15 @@ unfolding listedSets turbo
 carried s e ne =
     ⊎-elim (λ m. carried-by s (at-each divides (setsOf carriers) all-divide m))
     (λ m. absurd (ne (sym (ap (λ (x : Set). x .profile) (Memᴰ·of-map (λ n. set 5 1 n) turboSizes m .2)))))
+    (List·Memᴰ·append-cases (setsOf carriers) (accepted-listed s e))
+
+pub turbo-size : (s : Set) → verdictOf s ≡ done tt → s .profile ≡ 5 → (40 ≤ s .n) × (s .n ≤ 5114)
+unfolding listedSets turbo turboSizes not-turbo
+turbo-size s e five =
+    ⊎-elim (λ m. absurd (false≢true (sym (ap not (eq-eqb (s .profile) 5 five)) ∙ at-each not-turbo (setsOf carriers) none-turbo m)))
+    (λ m.
+    let q = Memᴰ·of-map (λ n. set 5 1 n) turboSizes m in
+    let r = mem-run (λ j. 40 + j) 0 5075 (q .1) in
+    let same : s .n ≡ q .0 = sym (ap (λ (x : Set). x .n) (q .2)) in
+    (omega (arith, r .3), omega (arith, r .2, r .3)))
     (List·Memᴰ·append-cases (setsOf carriers) (accepted-listed s e))
