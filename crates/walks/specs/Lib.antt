@@ -5,3 +5,5 @@ pub mod ByCarrier
 pub mod ByTurbo
 pub mod Lists
 pub mod One
+pub mod Runs
+pub mod Calls
