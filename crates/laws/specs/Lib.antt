@@ -16,3 +16,5 @@ pub mod Position
 pub mod Written
 pub mod Entries
 pub mod Bare
+pub mod Loop
+pub mod Blind

@@ -150,6 +150,14 @@ buffer-kept ls k new old f = rw (stopped-first ls k f)
 pub buffer-new : {B : Type 0} (ls : List Line) (new old : B) → Clear ls → after ls new old ≡ new
 buffer-new ls new old c = rw (clear-first ls c)
 
+-- the same from an answer
+module _ {R A : Type 0} (give : ℕ → R) (a : A) (ls : List Line) where
+  pub answer-keeps : {r : R} → judged give ls a ≡ refused r → {B : Type 0} (new old : B) → after ls new old ≡ old
+  answer-keeps {r} e new old = let g = refused-first give a ls r e in buffer-kept ls (g .number) new old (g .its-line)
+
+  pub answer-clear : {b : A} → judged give ls a ≡ done b → first ls ≡ clear
+  answer-clear {b} e = clear-first ls (done-clear give a ls b e .0)
+
 -- lines in front that refuse, refuse for all that stand behind them
 module _ {R A : Type 0} (give : ℕ → R) (a : A) (ls ms : List Line) {r : R} (e : judged give ls a ≡ refused r) where
   pub refused-front : {B : Type 0} (b : B) → judged give (ls ++ ms) b ≡ refused r

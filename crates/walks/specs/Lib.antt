@@ -7,3 +7,4 @@ pub mod Lists
 pub mod One
 pub mod Runs
 pub mod Calls
+pub mod Whole

@@ -1,0 +1,59 @@
+-- `blocks::bytes::deinterleave_by` meets its contract: the plan's refusal, or the symbols moved by its table.
+use mathlib.Core.Path.{_∙_}
+use Rattle.blocks.specs.Answer.{deinterleaved}
+use Rattle.blocks.specs.Passed.{scatter-in, refused-answer, refused-output, done-answer, scatter-output}
+use borrow.Author.Needs.{needs}
+use Rattle.blocks.proofs.bytes.deinterleave_by.Statement.{statement}
+use Rattle.blocks.proofs.bytes.deinterleave_by.Tie as tie
+
+plan-block-requires : tie.Need-plan-block-requires
+plan-block-requires c κs = search needs
+
+enum-known-m : tie.Need-enum-known-m
+enum-known-m c = search needs
+
+enum-told : tie.Need-enum-told
+enum-told c = search needs
+
+scatter-by-requires : tie.Need-scatter-by-requires
+scatter-by-requires c κs =
+    let z = c .before .before .before .before in
+    scatter-in (z .before .before .plan-block .ensures) (c .before .before .enum-told .given .1)
+
+same-length : tie.Need-same-length
+same-length c = search needs
+
+returns : tie.Need-returns
+unfolding deinterleaved
+returns c =
+    let z = c .before .before .before in
+    let p = z .before .before .plan-block .ensures in
+    (refused-answer p (c .before .m .given .1), refused-output p (c .before .m .given .1) _ _)
+
+same-length-2 : tie.Need-same-length-2
+same-length-2 c = search needs
+
+same-length-3 : tie.Need-same-length-3
+same-length-3 c = search needs
+
+returns-2 : tie.Need-returns-2
+unfolding deinterleaved
+returns-2 c =
+    let z = c .before .before .before .before .before .before .before in
+    let p = z .before .before .plan-block .ensures in
+    let e = c .before .before .before .before .before .enum-told .given .1 in
+    (done-answer p e, c .before .before .scatter-by .ensures ∙ scatter-output p e _ _ _)
+
+pub deinterleave-by-spec : {M : Type 1} → statement M
+deinterleave-by-spec =
+    tie.close
+    (tie.spec
+    plan-block-requires
+    enum-known-m
+    enum-told
+    scatter-by-requires
+    same-length
+    returns
+    same-length-2
+    same-length-3
+    returns-2)
