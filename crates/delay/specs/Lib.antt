@@ -1,0 +1,5 @@
+pub mod Machine
+pub mod Slots
+pub mod Cuts
+pub mod Delay
+pub mod Round
