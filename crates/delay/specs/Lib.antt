@@ -7,3 +7,5 @@ pub mod Lane
 pub mod Past
 pub mod Laning
 pub mod Turning
+pub mod Loops
+pub mod Leading

@@ -26,7 +26,7 @@ pub wrap-end : (p first last : ℕ) → last ≤ p → wrapOf p first last ≡ f
 unfolding wrapOf
 wrap-end p first last h = rw (le-leb last p h)
 
-wrap-low : (p first last : ℕ) → first < last → wrapOf p first last < last
+pub wrap-low : (p first last : ℕ) → first < last → wrapOf p first last < last
 wrap-low p first last l = go (decLt p last)
   where
     go : Dec (p < last) → wrapOf p first last < last

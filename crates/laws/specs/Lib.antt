@@ -9,3 +9,4 @@ pub mod Perm
 pub mod Move
 pub mod Keep
 pub mod Cut
+pub mod Sentences
