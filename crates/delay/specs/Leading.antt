@@ -15,7 +15,7 @@ there-and-back : (way : Way) (b x : ℕ) → x < b → ringOf way b (ringOf way 
 there-and-back Interleaver b x h = refl
 there-and-back Deinterleaver b x h = omega arith
 
-module _ (way : Way) (b t x : ℕ) {j : ℕ} (h : x < b) (e : j ≡ ringOf way b x) where
+module _ (way : Way) (b t x : ℕ) {j m : ℕ} (h : x < b) (e : j ≡ ringOf way b x) (em : m ≡ t % b) where
   below : j < b
   below = rw e (ring-lt way b x h)
 
@@ -24,11 +24,11 @@ module _ (way : Way) (b t x : ℕ) {j : ℕ} (h : x < b) (e : j ≡ ringOf way b
   found q l n = record { few = l; here = rw (n, digits-mod q below, e) (there-and-back way b x h) }
 
   -- its branch is still to come in this turn ..
-  pub leads-on : t % b ≤ j → Leads way b t x (j - t % b)
+  pub leads-on : m ≤ j → Leads way b t x (j - m)
   leads-on l = found (t / b) (omega (arith, below)) (omega (arith, div-add-mod' t b))
 
   -- .. or comes in the next
-  pub leads-round : j < t % b → Leads way b t x (j + b - t % b)
+  pub leads-round : j < m → Leads way b t x (j + b - m)
   leads-round l =
-      let m : t % b < b = mod-lt t (omega arith) in
+      let n : t % b < b = mod-lt t (omega arith) in
       found (suc (t / b)) (omega arith) (omega (arith, div-add-mod' t b, suc-mul (t / b) b))

@@ -3,7 +3,7 @@
 use Prim.Native.Nat.{ℕ, zero, suc, _+_, _-_, _*_, _/_, _%_, _≤_, _<_}
 use mathlib.Core.Path.{_≡_, refl, sym, ap, _∙_}
 use mathlib.Core.List.{List, []}
-use native.Mathlib.Nat.{mul-le-mul-left, not-suc-le-zero}
+use native.Mathlib.Nat.{mul-le-mul-left, mul-comm, div-add-mod'}
 use native.Mathlib.Numerals.{add-one}
 use native.Mathlib.Omega.{arith}
 use lib.ListN.{length, getD, set, length-set}
@@ -13,6 +13,21 @@ use Rattle.delay.specs.Slots.{offset-suc, offset-le}
 use Rattle.delay.specs.Lane.{Inside, ringAt, Lane, Leads, wrapOf, Stretch, Turned, Passed}
 use Rattle.delay.specs.Laning.{ring-again, lane-none, lane-more, lane-all, Rings, rings-none, rings-more, rings-all}
 use Rattle.delay.specs.Turning.{wrap-low, Steps, steps-none, steps-more, steps-wrap, steps-then, steps-all}
+
+-- ---- how far a stretch goes: to its last byte, or to the ring's end
+
+module _ (b p last rest : ℕ) (hb : 0 < b) (h : p < last) (some : 0 < rest) where
+  few-bytes : b * ((rest - 1) / b) < rest
+  few-bytes = omega (arith, div-add-mod' (rest - 1) b, mul-comm b ((rest - 1) / b))
+
+  pub stretch-bytes : (rest - 1) / b < last - p → Stretch b p last rest (p + (rest - 1) / b + 1)
+  stretch-bytes l = record { some = omega arith; ends = omega arith; fits = omega (arith, few-bytes) }
+
+  pub stretch-ring : last - p ≤ (rest - 1) / b → Stretch b p last rest last
+  stretch-ring l = record { some = h; ends = omega arith; fits = omega (arith, few-bytes, all) }
+    where
+      all : b * last ≤ b * (p + (rest - 1) / b)
+      all = mul-le-mul-left b (omega arith)
 
 -- ---- a stretch, from place p₁ and byte i₁ to the place stop
 

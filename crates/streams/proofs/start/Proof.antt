@@ -1,0 +1,30 @@
+use borrow.Author.Needs.{needs}
+use Rattle.streams.proofs.start.Statement.{statement}
+use Rattle.streams.proofs.start.Tie as tie
+use Rattle.streams.proofs.start.Reads as reads
+use Rattle.streams.proofs.start.Lts as lts
+use Rattle.streams.proofs.Stream.new.Reads as new-reads
+use Rattle.streams.proofs.fill.Reads as fill-reads
+
+-- src/lib.rt:154:9
+returns : tie.Need-returns
+returns c = ?
+
+-- src/lib.rt:156:5
+fill-requires : tie.Need-fill-requires
+fill-requires c κs = search needs
+
+-- src/lib.rt:157:20
+new-requires : tie.Need-new-requires
+new-requires c κs = search needs
+
+-- src/lib.rt:149:1
+same-length : tie.Need-same-length
+same-length c = search needs
+
+-- src/lib.rt:149:1
+returns-2 : tie.Need-returns-2
+returns-2 c = ?
+
+pub start-spec : {M : Type 1} → statement M
+start-spec = tie.close (tie.spec returns fill-requires new-requires same-length returns-2)

@@ -1,0 +1,2 @@
+pub mod Dvb
+pub mod Answers

@@ -1,0 +1,66 @@
+// The loops over one ring of a branch machine, for any number of branches. No byte divides, and no byte reads a table.
+ghost use mathlib.Core.Path.{_≡_};
+ghost use Prim.Native.Nat.{_≤_, _<_};
+ghost use lib.ListN.{length};
+ghost use Rattle.delay.specs.Lane.{wrapOf, Stretch, Turned, Passed};
+
+// Where a stretch from place on ends: at the ring's end, or where the bytes do. There are rest bytes left, each branches-th of this ring.
+fn until(branches: usize, place: usize, last: usize, rest: usize) -> usize
+    requires { ⌜ (0 < branches) × (place < last) × (0 < rest) ⌝ }
+    ensures { λ r. ⌜ Stretch branches place last rest r ⌝ }
+{
+    let bytes = (rest - 1) / branches;
+    if bytes < last - place {
+        place + bytes + 1
+    } else {
+        last
+    }
+}
+
+// A place, or the ring's first where it is past the ring's last.
+fn wrap(place: usize, first: usize, last: usize) -> usize
+    ensures { λ r. ⌜ r ≡ wrapOf place first last ⌝ }
+{
+    if last <= place { first } else { place }
+}
+
+// The bytes that pass through: byte from, and each branches-th after it.
+pub fn pass(branches: usize, from: usize, input: &[u8], out: &mut [u8])
+    requires { ⌜ (0 < branches) × (branches < 65536) × (length (now out) ≡ length (now input)) ⌝ }
+    ensures { λ _. ⌜ Passed branches from (now (input .entry)) (now (out .entry)) (now (out .exit)) ⌝ }
+{
+    let mut i = from;
+    while i < input.len() {
+        out[i] = input[i];
+        i += branches;
+    }
+}
+
+// The bytes of the ring at places first to last - 1: byte from, which goes to place at, and each branches-th after it.
+pub fn turn(
+    branches: usize,
+    first: usize,
+    last: usize,
+    from: usize,
+    at: usize,
+    store: &mut [u8],
+    input: &[u8],
+    out: &mut [u8],
+)
+    requires { ⌜ (0 < branches) × (branches < 65536) × (first < last) × (at < last) × (last ≤ length (now store)) × (length (now out) ≡ length (now input)) ⌝ }
+    ensures { λ _. ⌜ Turned branches first last from at (now (store .entry)) (now (input .entry)) (now (out .entry)) (now (store .exit)) (now (out .exit)) ⌝ }
+{
+    let mut i = from;
+    let mut place = at;
+    while i < input.len() {
+        let stop = until(branches, place, last, input.len() - i);
+        while place != stop {
+            let byte = input[i];
+            out[i] = store[place];
+            store[place] = byte;
+            place += 1;
+            i += branches;
+        }
+        place = wrap(stop, first, last);
+    }
+}
