@@ -1,2 +1,4 @@
 pub mod Dvb
 pub mod Answers
+pub mod Phase
+pub mod Feeding
