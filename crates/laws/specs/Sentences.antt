@@ -1,11 +1,14 @@
 -- The lines of a call as the paper writes them: each a number and a sentence, true exactly when the line applies. The number that a call says
 -- is that of the first true sentence. Over any sentences. Assumes nothing.
-use Prim.Native.Nat.{ℕ}
+use Prim.Native.Nat.{ℕ, _≤_}
 use native.Mathlib.Omega.{arith}
-use mathlib.Core.Bool.{Bool, true, false, cond}
+use mathlib.Core.Bool.{Bool, true, false, cond, not}
 use mathlib.Core.List.{List, [], _∷_}
-use mathlib.Core.Logic.{_↔_, _⊎_, inl, inr}
+use mathlib.Core.Logic.{_≢_, _↔_, _⊎_, inl, inr}
 use mathlib.Core.Path.{_≡_, refl, sym, ap, _∙_}
+use native.Mathlib.Nat.{not-le-of-lt}
+use lib.Dec.{eqb, leb}
+use borrow.Author.Tests.{leb-true, leb-false, eqb-true, eqb-false, not-true, not-false}
 use Rattle.laws.specs.Outcome.{Outcome, done, refused, Line, line, Ruling, clear, stopped, first, settle, judged, after}
 
 -- a refusal's number, and the sentence that says when it is given
@@ -26,6 +29,14 @@ pub data Told : List Line → List Sentence → Type 1 where
   none : Told [] []
   more : {k : ℕ} {b : Bool} {p : Type 0} {ls : List Line} {ps : List Sentence} → (b ≡ true → p) → (b ≡ false → p → ⊥) → Told ls ps
       → Told (line k b ∷ ls) (sentence k p ∷ ps)
+
+-- lines that test whether two numbers differ, or whether one reaches another
+module _ {ls : List Line} {ps : List Sentence} (k a b : ℕ) (t : Told ls ps) where
+  pub told-differ : Told (line k (not (eqb a b)) ∷ ls) (sentence k (a ≢ b) ∷ ps)
+  told-differ = more {p = a ≢ b} (λ e. eqb-false a b (not-true (eqb a b) e)) (λ e n. n (eqb-true a b (not-false (eqb a b) e))) t
+
+  pub told-reach : Told (line k (leb a b) ∷ ls) (sentence k (a ≤ b) ∷ ps)
+  told-reach = more {p = a ≤ b} (leb-true a b) (λ e n. not-le-of-lt (leb-false a b e) n) t
 
 never : {k : ℕ} → clear ≡ stopped k → ⊥
 never {k} e = let z : _≡_ {A = ℕ} 0 1 = cc in omega arith
