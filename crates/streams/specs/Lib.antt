@@ -6,3 +6,4 @@ pub mod Calls
 pub mod Condition3
 pub mod Blind
 pub mod Refusals
+pub mod Wrong

@@ -6,7 +6,7 @@ use delay::Way;
 
 ghost use mathlib.Core.Path.{_≡_};
 ghost use Prim.Native.Nat.{ℕ, _+_, _*_, _/_, _%_, _<_};
-ghost use lib.ListN.{length, replicate};
+ghost use lib.ListN.{length};
 ghost use Rattle.laws.specs.Outcome.{judged, after};
 ghost use Rattle.delay.specs.declared.Way.the-variants.{Interleaver, Deinterleaver};
 ghost use Rattle.delay.specs.Machine.{ringOf};
@@ -134,12 +134,13 @@ impl Stream {
     }
 }
 
-// Fills the whole slice with f.
+// Fills the store of a machine with f.
 fn fill(store: &mut [u8], f: u8)
-    ensures { λ _. ⌜ now (store .exit) ≡ replicate (length (now (store .entry))) f ⌝ }
+    requires { ⌜ length (now store) ≡ 1122 ⌝ }
+    ensures { λ _. ⌜ now (store .exit) ≡ startStore f ⌝ }
 {
     let mut i = 0;
-    while i < store.len() {
+    while i < Stream::STORE {
         store[i] = f;
         i += 1;
     }

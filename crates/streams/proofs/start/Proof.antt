@@ -1,7 +1,6 @@
 use mathlib.Core.Path.{refl, ap}
 use borrow.Author.Tests.{eq-eqb, ne-eqb}
 use Rattle.laws.specs.Outcome.{done}
-use Rattle.streams.specs.Dvb.{startStore}
 use borrow.Author.Needs.{needs}
 use Rattle.streams.proofs.start.Statement.{statement}
 use Rattle.streams.proofs.start.Tie as tie
@@ -28,10 +27,9 @@ same-length c = search needs
 
 -- src/lib.rt:149:1
 returns-2 : tie.Need-returns-2
-unfolding startStore
 returns-2 c = 
     let e = c .before .before .before .before .before .if1 .left in
-    (rw (eq-eqb _ _ e) (ap done (c .new .ensures)), rw (eq-eqb _ _ e) (rw e at (c .before .before .before .fill .ensures)))
+    (rw (eq-eqb _ _ e) (ap done (c .new .ensures)), rw (eq-eqb _ _ e) (c .before .before .before .fill .ensures))
 
 pub start-spec : {M : Type 1} → statement M
 start-spec = tie.close (tie.spec returns fill-requires new-requires same-length returns-2)

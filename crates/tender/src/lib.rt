@@ -1,0 +1,1 @@
+// The conditions of the tender: specs/ has the theorems, over the definitions that the public contracts cite. No code.
