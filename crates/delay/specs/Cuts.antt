@@ -4,7 +4,7 @@ use Prim.Native.Nat.{ℕ, zero, suc, _+_}
 use mathlib.Core.Path.{_≡_, refl, sym, ap, _∙_}
 use mathlib.Core.List.{List, [], _∷_, _++_, map}
 use native.Mathlib.Nat.{add-zero, add-suc, suc-add}
-use lib.ListN.{length, getD, set, replicate, List·getD-map}
+use lib.ListN.{length, set, replicate, List·getD-map}
 use Rattle.delay.specs.Machine.{Slot, through, place, gives, keeps, runOutput, runStore, runRecord}
 use Rattle.delay.specs.Slots.{length-keeps}
 

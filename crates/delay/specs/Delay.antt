@@ -1,13 +1,13 @@
 -- What comes out of a machine that starts with its store full of f: byte t is input byte t - delay, or f where there is no such byte.
 -- Over the way, the number of branches and the step; the record is t itself, unbounded. Assumes nothing.
-use Prim.Native.Nat.{ℕ, zero, suc, _+_, _-_, _*_, _/_, _%_, _≤_, _<_}
+use Prim.Native.Nat.{ℕ, zero, suc, _+_, _*_, _/_, _%_, _≤_, _<_}
 use mathlib.Core.Path.{_≡_, refl, sym, ap, _∙_}
 use mathlib.Core.Logic.{_≢_}
 use mathlib.Core.List.{List, [], _∷_}
 use native.Mathlib.Nat.{le-refl, mul-assoc, mul-comm, mul-zero, add-mul, zero-add, add-zero, add-suc, suc-add, mod-lt, mul-pos, div-add-mod', mul-le-mul-right, add-mul-mod-self-left, add-mul-div-left, add-mod-right, not-suc-le-zero, add-sub-cancel}
 use native.Mathlib.Omega.{arith}
 use native.Mathlib.Decide.{decLt}
-use lib.ListN.{length, getD, set, replicate, length-set, getD-replicate, length-replicate}
+use lib.ListN.{length, getD, replicate, getD-replicate, length-replicate}
 use lib.Seq.{getD-set-same, getD-set-other}
 use borrow.Author.Tests.{lt-ltb, le-ltb}
 use Rattle.delay.specs.declared.Way.{Way}
@@ -64,8 +64,10 @@ module _ (way : Way) (b s : ℕ) (hb : 0 < b) (hs : 0 < s) where
     where
       xt : ℕ
       xt = ringOf way b (t % b)
+
       xu : ℕ
       xu = ringOf way b (u % b)
+
       same : xt ≡ xu → ⊥
       same q =
           let r : u % b ≡ t % b = ring-inj way b (u % b) (t % b) (mod-lt u hb) (mod-lt t hb) (sym q) in
@@ -74,6 +76,7 @@ module _ (way : Way) (b s : ℕ) (hb : 0 < b) (hs : 0 < s) where
           let far : (t / b + s * xu) * b ≤ u / b * b = mul-le-mul-right b (gap (s * xu) (t / b) (u / b) (rows-lt b t u h r) m) in
           let far′ : t / b * b + b * s * xu ≤ u / b * b = rw (add-mul, mul-comm (s * xu) b, ← mul-assoc b s xu) at far in
           omega (arith, div-add-mod' t b, div-add-mod' u b)
+
       go : Dec (xt < xu) → Dec (xu < xt) → ⊥
       go (yes l) d = omega (arith, at-lt s xt (t / b) j hs et, at-slot s xu (u / b) i eu .1, offset-end s xt xu l, e)
       go (no n) (yes l) = omega (arith, at-lt s xu (u / b) i hs eu, at-slot s xt (t / b) j et .1, offset-end s xu xt l, e)

@@ -1,15 +1,14 @@
--- One ring's bytes, part way, and the rings one past the other. Over the number of branches and the step. Assumes nothing.
-use Prim.Native.Nat.{ℕ, zero, suc, _+_, _-_, _*_, _/_, _%_, _≤_, _<_}
+-- One ring's bytes, part way, and the rings one after the other. Over the number of branches and the step. Assumes nothing.
+use Prim.Native.Nat.{ℕ, zero, suc, _+_, _≤_, _<_}
 use mathlib.Core.Path.{_≡_, refl, sym, ap, _∙_}
 use Rattle.delay.specs.declared.Way.{Way}
-use mathlib.Core.List.{List, [], _∷_}
-use mathlib.Core.Logic.{_≢_}
-use native.Mathlib.Nat.{mod-lt, not-suc-le-zero, add-assoc, add-mod-right, le-refl}
+use mathlib.Core.List.{List}
+use native.Mathlib.Nat.{not-suc-le-zero, add-mod-right, le-refl}
 use native.Mathlib.Omega.{arith}
-use native.Mathlib.Decide.{decLt, ℕ-discrete}
+use native.Mathlib.Decide.{decLt}
 use lib.ListN.{length, getD, set, length-set}
 use lib.Seq.{getD-set-same, getD-set-other, ext-getD}
-use Rattle.delay.specs.Machine.{Slot, through, place, ringOf, offset, slotAt, gives, keeps, runOutput, runStore}
+use Rattle.delay.specs.Machine.{Slot, offset, slotAt, gives, keeps, runOutput, runStore}
 use Rattle.delay.specs.Slots.{offset-suc, offset-end, length-keeps}
 use Rattle.delay.specs.Cuts.{length-output, length-store}
 use Rattle.delay.specs.Lane.{Inside, ringAt, past, Lane}

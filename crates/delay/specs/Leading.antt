@@ -1,6 +1,6 @@
 -- The first byte of a ring, from byte t on, over the number of branches. Assumes nothing.
 use Prim.Native.Nat.{ℕ, suc, _+_, _-_, _*_, _/_, _%_, _≤_, _<_}
-use mathlib.Core.Path.{_≡_, refl, ap, _∙_}
+use mathlib.Core.Path.{_≡_, refl}
 use native.Mathlib.Nat.{mod-lt, div-add-mod', suc-mul}
 use native.Mathlib.Omega.{arith}
 use lib.Arith.{digits-mod}

@@ -1,14 +1,14 @@
 -- What holds at each turn of a feed's loops: over a stretch of neighbouring places, over a ring, over the bytes that pass through, over the
 -- rings. Over the number of branches and the step. Assumes nothing.
-use Prim.Native.Nat.{ℕ, zero, suc, _+_, _-_, _*_, _/_, _%_, _≤_, _<_}
-use mathlib.Core.Path.{_≡_, refl, sym, ap, _∙_}
-use mathlib.Core.List.{List, []}
+use Prim.Native.Nat.{ℕ, suc, _+_, _-_, _*_, _/_, _≤_, _<_}
+use mathlib.Core.Path.{_≡_, refl, ap, _∙_}
+use mathlib.Core.List.{List}
 use native.Mathlib.Nat.{mul-le-mul-left, mul-comm, div-add-mod'}
 use native.Mathlib.Numerals.{add-one}
 use native.Mathlib.Omega.{arith}
 use lib.ListN.{length, getD, set, length-set}
 use Rattle.delay.specs.declared.Way.{Way}
-use Rattle.delay.specs.Machine.{Slot, through, place, ringOf, offset, slotAt, runOutput, runStore}
+use Rattle.delay.specs.Machine.{through, offset, slotAt, runOutput, runStore}
 use Rattle.delay.specs.Slots.{offset-suc, offset-le}
 use Rattle.delay.specs.Lane.{Inside, ringAt, Lane, Leads, wrapOf, Stretch, Turned, Passed}
 use Rattle.delay.specs.Laning.{ring-again, lane-none, lane-more, lane-all, Rings, rings-none, rings-more, rings-all}

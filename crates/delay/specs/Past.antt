@@ -1,15 +1,16 @@
--- The store past i bytes, ring by ring: a byte changes its own ring only. Over the number of branches and the step. Assumes nothing.
-use Prim.Native.Nat.{ℕ, zero, suc, _+_, _-_, _*_, _/_, _%_, _≤_, _<_}
+-- The store when i bytes have passed, ring by ring: a byte changes its own ring only, and looks at no other. Over the number of branches and
+-- the step. Assumes nothing.
+use Prim.Native.Nat.{ℕ, zero, suc, _+_, _-_, _/_, _%_, _≤_, _<_}
 use mathlib.Core.Path.{_≡_, refl, sym, ap, _∙_}
 use Rattle.delay.specs.declared.Way.{Way}
 use mathlib.Core.List.{List, [], _∷_, _++_}
 use mathlib.Core.Logic.{_≢_}
-use native.Mathlib.Nat.{mod-lt, not-suc-le-zero, add-zero, add-suc, suc-add, add-assoc}
+use native.Mathlib.Nat.{mod-lt, add-zero, add-suc}
 use native.Mathlib.Omega.{arith}
 use native.Mathlib.Decide.{decLt, ℕ-discrete}
-use lib.ListN.{length, getD, set, take, drop, length-set, take-append-drop}
+use lib.ListN.{length, getD, set, take, drop, take-append-drop}
 use lib.Seq.{getD-set-same, getD-set-other, take-suc, take-all, drop-cons, length-take-le, getD-append-add}
-use Rattle.delay.specs.Machine.{Slot, through, place, ringOf, offset, slotIn, slotAt, gives, keeps, runOutput, runStore, runRecord}
+use Rattle.delay.specs.Machine.{Slot, through, place, ringOf, slotAt, gives, keeps, runOutput, runStore, runRecord}
 use Rattle.delay.specs.Slots.{ring-lt, ring-inj, offset-suc, offset-end, at-slot, at-lt, gap, getD-there}
 use Rattle.delay.specs.Cuts.{output-cut, store-cut, record-count, length-output, length-store}
 use Rattle.delay.specs.Lane.{Inside, ringAt, past}

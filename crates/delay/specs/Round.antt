@@ -1,6 +1,6 @@
 -- The deinterleaver behind the interleaver: the input again, branches·step·(branches - 1) bytes late, behind f. Assumes nothing.
-use Prim.Native.Nat.{ℕ, zero, suc, _+_, _-_, _*_, _%_, _≤_, _<_}
-use mathlib.Core.Path.{_≡_, refl, sym, ap, _∙_}
+use Prim.Native.Nat.{ℕ, suc, _+_, _-_, _*_, _%_, _<_}
+use mathlib.Core.Path.{_≡_, sym, ap, _∙_}
 use mathlib.Core.List.{List, _++_}
 use native.Mathlib.Nat.{mul-add, mod-lt}
 use native.Mathlib.Omega.{arith}
@@ -37,13 +37,15 @@ module _ (b s : ℕ) (hb : 0 < b) (hs : 0 < s) where
 
   pub round : {A : Type 0} (f : A) (xs : List A) (t : ℕ) → t < length xs
       → getD (runOutput (slotAt Deinterleaver b s) suc 0 (replicate (offset s b) f) (runOutput (slotAt Interleaver b s) suc 0 (replicate (offset s b) f) xs)) t f
-        ≡ late f (b * s * (b - 1)) (λ n. getD xs n f) t
+      ≡ late f (b * s * (b - 1)) (λ n. getD xs n f) t
   round {A} f xs t h = fresh Deinterleaver b s hb hs f ys t (omega (arith, length-output (slotAt Interleaver b s) suc xs 0 (replicate (offset s b) f))) ∙ go (decLt t d)
     where
       ys : List A
       ys = runOutput (slotAt Interleaver b s) suc 0 (replicate (offset s b) f) xs
+
       d : ℕ
       d = delayAt Deinterleaver b s t
+
       go : Dec (t < d) → late f d (λ n. getD ys n f) t ≡ late f (b * s * (b - 1)) (λ n. getD xs n f) t
       go (yes g) =
           late-early f d (λ n. getD ys n f) t g ∙ sym (late-early f (b * s * (b - 1)) (λ n. getD xs n f) t (omega (arith, delays t)))
@@ -66,6 +68,7 @@ late-list f d xs zs e h =
   where
     long : length (take (length xs) (replicate d f ++ xs)) ≡ length xs
     long = length-take-le (length xs) (replicate d f ++ xs) (omega (arith, length-append (replicate d f) xs))
+
     at : (i : ℕ) → Dec (i < d) → late f d (λ n. getD xs n f) i ≡ getD (replicate d f ++ xs) i f
     at i (yes g) =
         late-early f d (λ n. getD xs n f) i g

@@ -1,15 +1,13 @@
 -- Facts on rings, slots and what a byte does to the store, over the number of branches and the step. Assumes nothing.
 use Prim.Native.Nat.{ℕ, zero, suc, _+_, _-_, _*_, _/_, _%_, _≤_, _<_}
-use mathlib.Core.Path.{_≡_, refl, sym, ap, _∙_, subst}
+use mathlib.Core.Path.{_≡_, refl, ap, _∙_}
 use Rattle.delay.specs.declared.Way.{Way}
 use Rattle.delay.specs.declared.Way.the-variants.{Interleaver, Deinterleaver}
-use mathlib.Core.Logic.{_≢_}
-use native.Mathlib.Nat.{le-refl, le-trans, mul-zero, mul-suc, suc-mul, mul-assoc, mul-comm, mul-right-comm, add-zero, add-suc, zero-div, add-mul-div-right, mod-lt, mul-pos, div-add-mod', lt-of-mul-lt-mul-right, mul-le-mul-right, add-mul-mod-self-left, add-mul-div-left, add-mod-right, zero-lt-suc, not-suc-le-zero, le-of-suc-le-suc}
+use native.Mathlib.Nat.{le-refl, mul-zero, mul-suc, suc-mul, mul-right-comm, add-zero, add-suc, add-mul-div-right, mod-lt, mul-pos, div-add-mod', lt-of-mul-lt-mul-right, mul-le-mul-right, zero-lt-suc, not-suc-le-zero, le-of-suc-le-suc}
 use mathlib.Core.List.{List, [], _∷_}
 use native.Mathlib.Omega.{arith}
-use lib.ListN.{length, getD, set, length-set}
-use native.Mathlib.Decide.{decLt}
-use Rattle.delay.specs.Machine.{Slot, through, place, ringOf, offset, slotIn, slotAt, gives, keeps}
+use lib.ListN.{length, getD, length-set}
+use Rattle.delay.specs.Machine.{Slot, through, place, ringOf, offset, slotIn, slotAt, keeps}
 
 -- ---- offsets: a ring begins where the one before it ends
 

@@ -1,9 +1,9 @@
 -- The loops over one ring, part way: its bytes go to neighbouring places, and at the ring's end to its first place again. Over the number of
 -- branches and the step, and whatever byte of the stream the loop begins with. Assumes nothing.
-use Prim.Native.Nat.{ℕ, zero, suc, _+_, _-_, _*_, _/_, _%_, _≤_, _<_}
+use Prim.Native.Nat.{ℕ, suc, _+_, _*_, _/_, _%_, _≤_, _<_}
 use mathlib.Core.Path.{_≡_, refl, sym, ap, _∙_}
-use mathlib.Core.List.{List, []}
-use native.Mathlib.Nat.{mod-lt, add-zero, add-div-right, div-add-mod', suc-mul, mul-pos, mul-le-mul-left}
+use mathlib.Core.List.{List}
+use native.Mathlib.Nat.{mod-lt, add-zero, add-div-right, div-add-mod', suc-mul, mul-pos}
 use native.Mathlib.Numerals.{add-one}
 use native.Mathlib.Omega.{arith}
 use native.Mathlib.Decide.{decLt}
@@ -11,9 +11,9 @@ use lib.Arith.{digits-mod}
 use lib.ListN.{length, getD, set, length-set}
 use borrow.Author.Tests.{le-leb, lt-leb}
 use Rattle.delay.specs.declared.Way.{Way}
-use Rattle.delay.specs.Machine.{Slot, through, place, ringOf, offset, slotIn, slotAt}
-use Rattle.delay.specs.Slots.{offset-suc, slot-at, getD-there}
-use Rattle.delay.specs.Lane.{Inside, ringAt, Lane, Leads, Ring, wrapOf, Stretch, Turned, Passed}
+use Rattle.delay.specs.Machine.{place, offset, slotAt}
+use Rattle.delay.specs.Slots.{slot-at, getD-there}
+use Rattle.delay.specs.Lane.{ringAt, Lane, Leads, Ring, wrapOf, Turned}
 use Rattle.delay.specs.Laning.{inside-lt, ring-again, lane-none, lane-more, lane-all}
 
 -- ---- a place, stepped

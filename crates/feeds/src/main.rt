@@ -7,7 +7,6 @@ use libc::STDOUT_FILENO;
 use streams::Fed;
 use streams::Started;
 use streams::Stream;
-
 ghost use Prim.Native.Nat.{_≤_};
 
 // How often a machine was called, refused with 7, 9, 6 or anything else, and how many bytes it took.
@@ -152,7 +151,14 @@ fn turn(k: usize, back: bool, now: Going, store: &mut [u8], input: &[u8], out: &
 }
 
 // Every byte of the input, from the record and the store, the first call that with the number from.
-fn run(from: usize, back: bool, s: Stream, store: &mut [u8], input: &[u8], out: &mut [u8]) -> Tally {
+fn run(
+    from: usize,
+    back: bool,
+    s: Stream,
+    store: &mut [u8],
+    input: &[u8],
+    out: &mut [u8],
+) -> Tally {
     let tally = Tally::none();
     let mut now = Going { s, at: 0, tally };
     let mut k = from % 100;
@@ -202,7 +208,12 @@ fn machine(back: bool, phase: u32, f: u8, first: &[u8], input: &[u8], out: &mut 
     let s = begin(&mut store, f, phase);
     let from = if back { 23 } else { 0 };
     let tally = run(from, back, s, &mut store, input, out);
-    report(back, tally, closed::checksum(out), closed::differences(first, out, back, f));
+    report(
+        back,
+        tally,
+        closed::checksum(out),
+        closed::differences(first, out, back, f),
+    );
 }
 
 // Both machines, the deinterleaver cut in its own way.

@@ -1,14 +1,13 @@
 -- A machine never looks at a byte: every byte changed by any function, of any type to any other, in the store, the fill and the input alike,
 -- it does the same and gives the changed bytes. Assumes nothing.
-use Prim.Native.Nat.{ℕ}
-use mathlib.Core.Path.{_≡_, refl, sym, ap, _∙_}
+use mathlib.Core.Path.{_≡_, refl, ap, _∙_}
 use mathlib.Core.List.{List, map}
-use lib.ListN.{length, length-map}
+use lib.ListN.{length-map}
 use Rattle.laws.specs.Outcome.{Line, Ruling, clear, stopped, first, settle, judged, after}
 use Rattle.delay.specs.Cuts.{replicate-map, output-map, store-map, record-map}
 use Rattle.streams.specs.declared.Stream.{Stream}
 use Rattle.streams.specs.Dvb.{slotOf, nextOf, startRecord, startStore, fedOutput, fedStore, fedRecord}
-use Rattle.streams.specs.Answers.{startLines, feedLines}
+use Rattle.streams.specs.Answers.{startLines}
 use Rattle.streams.specs.Calls.{Call, linesOf, says, storeAfter, outputAfter}
 
 module _ {A B : Type 0} (g : A → B) where
@@ -47,8 +46,7 @@ module _ {A B : Type 0} (g : A → B) where
   unfolding fedOutput fedStore fedRecord
   feed-blind c =
       let lines = feed-lines-map c in
-      let slot = slotOf (c .way) in
-      (
+      let slot = slotOf (c .way) in (
         ap (λ (ls : List Line). judged (λ k. k) ls (fedRecord (c .stream) (map g (c .input)))) lines
             ∙ ap (λ (s : Stream). judged (λ k. k) (linesOf c) s) (record-map g slot nextOf (c .input) (c .stream)),
         ap (λ (ls : List Line). after ls (fedStore (c .way) (c .stream) (map g (c .store)) (map g (c .input))) (map g (c .store))) lines

@@ -1,14 +1,13 @@
 -- Condition 3: calls cut anywhere are one run; what comes out of a started machine, and of the two one behind the other. Over bytes of any
 -- type, and with no bound on how many. Assumes nothing.
-use Prim.Native.Nat.{ℕ, zero, suc, _+_, _*_, _%_, _<_}
+use Prim.Native.Nat.{ℕ, suc, _*_, _%_, _<_}
 use mathlib.Core.Path.{_≡_, refl, sym, ap, _∙_}
-use mathlib.Core.List.{List, [], _++_}
+use mathlib.Core.List.{List, _++_}
 use native.Mathlib.Nat.{zero-add, mod-lt}
-use native.Mathlib.Omega.{arith}
 use lib.ListN.{length, getD, replicate, take, length-replicate}
 use lib.Dec.{lit<}
 use borrow.Author.Tests.{eq-eqb, lt-leb}
-use Rattle.laws.specs.Outcome.{Outcome, done, refused, Clear, judged, after, done-clear, clear-done, refused-first, buffer-kept, buffer-new}
+use Rattle.laws.specs.Outcome.{done, refused, judged, done-clear, refused-first, buffer-kept, buffer-new}
 use Rattle.delay.specs.declared.Way.{Way}
 use Rattle.delay.specs.declared.Way.the-variants.{Interleaver, Deinterleaver}
 use Rattle.delay.specs.Machine.{offset, slotAt, runOutput, runStore, runRecord, delayAt, late}

@@ -1,6 +1,6 @@
 -- The phase, t modulo 5,654,880, stands for t: the wrap changes no slot, so a run of records is a run of the machine over t itself, without
 -- bound. Rests on one computed test: every ring's size divides 471,240 = 5,654,880 / 12. Assumes nothing.
-use Prim.Native.Nat.{ℕ, zero, suc, _+_, _*_, _/_, _%_, _≤_, _<_}
+use Prim.Native.Nat.{ℕ, zero, suc, _+_, _*_, _/_, _%_, _<_}
 use mathlib.Core.Path.{_≡_, refl, sym, ap, _∙_}
 use mathlib.Core.Bool.{Bool}
 use mathlib.Core.List.{List}
@@ -14,7 +14,7 @@ use borrow.Author.Tests.{eqb-true}
 use Rattle.laws.specs.Run.{run, run-mem}
 use Rattle.laws.specs.Table.{at-each}
 use Rattle.delay.specs.declared.Way.{Way}
-use Rattle.delay.specs.Machine.{Slot, place, ringOf, offset, slotIn, slotAt, runOutput, runStore, runRecord}
+use Rattle.delay.specs.Machine.{place, ringOf, offset, slotIn, slotAt, runOutput, runStore}
 use Rattle.delay.specs.Slots.{ring-lt}
 use Rattle.delay.specs.Cuts.{output-rep, store-rep, record-rep, record-count}
 use Rattle.streams.specs.declared.Stream.{Stream}

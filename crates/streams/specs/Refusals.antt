@@ -6,9 +6,8 @@ use mathlib.Core.List.{List, [], _∷_}
 use lib.ListN.{length}
 use Rattle.laws.specs.Outcome.{refused, judged, after}
 use Rattle.laws.specs.Sentences.{Sentence, sentence, FirstTrue, Told, none, told-differ, told-reach, said-exactly, kept-alone}
-use Rattle.streams.specs.declared.Stream.{Stream}
 use Rattle.streams.specs.Dvb.{startRecord, startStore, fedOutput, fedStore, fedRecord}
-use Rattle.streams.specs.Answers.{startLines, feedLines}
+use Rattle.streams.specs.Answers.{startLines}
 use Rattle.streams.specs.Calls.{Call, linesOf, says, storeAfter, outputAfter}
 
 module _ {A : Type 0} where

@@ -1,19 +1,18 @@
 -- Builds that condition 3 rules out, and that no small edit of the code makes: each as a definition, with an input at which it differs,
 -- computed. Assumes nothing.
-use Prim.Native.Nat.{ℕ, _+_}
-use mathlib.Core.Bool.{Bool, true, false, cond}
-use mathlib.Core.Path.{_≡_, refl, sym, ap, _∙_}
+use Prim.Native.Nat.{ℕ}
+use mathlib.Core.Bool.{cond}
+use mathlib.Core.Path.{_≡_, refl}
 use mathlib.Core.List.{List, [], _∷_, _++_}
-use native.Mathlib.Omega.{arith}
-use lib.ListN.{length, getD, replicate, set}
+use lib.ListN.{getD}
 use lib.Dec.{eqb}
-use Rattle.laws.specs.Outcome.{Line, refused, judged, after}
+use Rattle.laws.specs.Outcome.{refused, after}
 use Rattle.delay.specs.declared.Way.{Way}
-use Rattle.delay.specs.declared.Way.the-variants.{Interleaver, Deinterleaver}
-use Rattle.delay.specs.Machine.{offset, slotIn, slotAt, runOutput, runStore, runRecord}
+use Rattle.delay.specs.declared.Way.the-variants.{Interleaver}
+use Rattle.delay.specs.Machine.{offset, slotAt, runOutput, runStore, runRecord}
 use Rattle.streams.specs.declared.Stream.{Stream}
 use Rattle.streams.specs.Dvb.{slotOf, nextOf, startRecord, startStore, fedOutput, fedStore, fedRecord}
-use Rattle.streams.specs.Answers.{startLines, feedLines}
+use Rattle.streams.specs.Answers.{startLines}
 use Rattle.streams.specs.Calls.{Call, says, storeAfter}
 
 -- a build that handles its first feed, the one from phase 0, and then echoes its input

@@ -3,7 +3,6 @@
 mod rings;
 
 use delay::Way;
-
 ghost use mathlib.Core.Path.{_≡_};
 ghost use Prim.Native.Nat.{ℕ, _+_, _*_, _/_, _%_, _<_};
 ghost use lib.ListN.{length};
@@ -33,8 +32,11 @@ pub enum Fed {
 
 impl Stream {
     pub const BRANCHES: usize = 12;
+
     pub const STEP: usize = 17;
+
     pub const STORE: usize = 1122;
+
     pub const PHASES: usize = 5654880;
 
     // The record of a machine that is just started.
@@ -69,11 +71,7 @@ impl Stream {
     {
         let j = Self::ring(way, x);
         let m = self.branch();
-        if j < m {
-            j + Self::BRANCHES - m
-        } else {
-            j - m
-        }
+        if j < m { j + Self::BRANCHES - m } else { j - m }
     }
 
     // The slot, in the ring of STEP * x bytes, of the byte that comes k bytes on.

@@ -34,8 +34,7 @@ module _ {A : Type 0} where
       → (t < 204 * (t % 12) → getD ys t f ≡ f) × (204 * (t % 12) ≤ t → getD ys t f ≡ getD xs (t - 204 * (t % 12)) f)
   delayed {f} {xs = xs} fresh calls t h =
       let e = condition3.delayed fresh calls t h in
-      let d = 204 * (t % 12) in
-      (
+      let d = 204 * (t % 12) in (
         λ early. e ∙ late-early f d (λ n. getD xs n f) t early,
         λ there.
             let k : t - d + d ≡ t = omega (arith, there) in

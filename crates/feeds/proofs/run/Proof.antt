@@ -1,13 +1,10 @@
+-- The lent buffers keep their lengths. Assumes nothing.
 use Prim.Native.Nat.{_-_}
 use mathlib.Core.Path.{_≡_}
 use lib.ListN.{length}
 use borrow.Author.Needs.{needs}
 use Rattle.feeds.proofs.run.Statement.{statement}
 use Rattle.feeds.proofs.run.Tie as tie
-use Rattle.feeds.proofs.run.Reads as reads
-use Rattle.feeds.proofs.run.Lts as lts
-use Rattle.feeds.proofs.Tally.none.Reads as none-reads
-use Rattle.feeds.proofs.turn.Reads as turn-reads
 
 abbrev Inv-loop : tie.InvT-loop
 Inv-loop from back store₀ input out₀ now₀ k₀ store out now k = (length out ≡ length out₀) × (length store ≡ length store₀)
@@ -15,39 +12,30 @@ Inv-loop from back store₀ input out₀ now₀ k₀ store out now k = (length o
 abbrev μ-loop : tie.MeasureT-loop
 μ-loop from back store₀ input out₀ now₀ k₀ store out now k = 300 - k
 
--- src/main.rt:148:9
 none-requires : tie.Need-none-requires Inv-loop μ-loop
 none-requires c κs = search needs
 
--- src/main.rt:151:5
 loop-holds : tie.Need-loop-holds Inv-loop μ-loop
 loop-holds c = search needs
 
--- src/main.rt:152:9
 turn-requires : tie.Need-turn-requires Inv-loop μ-loop
 turn-requires c κs = search needs
 
--- src/main.rt:153:9
 add-k : tie.Need-add-k Inv-loop μ-loop
 add-k c = search needs
 
--- src/main.rt:151:5
 loop-less : tie.Need-loop-less Inv-loop μ-loop
 loop-less c = search needs
 
--- src/main.rt:151:5
 loop-again : tie.Need-loop-again Inv-loop μ-loop
 loop-again c = search needs
 
--- src/main.rt:147:1
 same-length : tie.Need-same-length Inv-loop μ-loop
 same-length c = search needs
 
--- src/main.rt:147:1
 same-length-2 : tie.Need-same-length-2 Inv-loop μ-loop
 same-length-2 c = search needs
 
--- src/main.rt:147:1
 returns : tie.Need-returns Inv-loop μ-loop
 returns c = search needs
 

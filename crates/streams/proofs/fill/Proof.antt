@@ -1,3 +1,4 @@
+-- The invariant: the first i bytes are f, the others as they were. Assumes nothing.
 use Prim.Native.Nat.{ℕ, _≤_, _<_, _-_}
 use mathlib.Core.Path.{_≡_, refl, ap, _∙_}
 use mathlib.Core.List.{_++_, append-nil}
@@ -8,8 +9,6 @@ use borrow.Author.Fill.{fill-more}
 use Rattle.streams.specs.Dvb.{startStore}
 use Rattle.streams.proofs.fill.Statement.{statement}
 use Rattle.streams.proofs.fill.Tie as tie
-use Rattle.streams.proofs.fill.Reads as reads
-use Rattle.streams.proofs.fill.Lts as lts
 
 abbrev Inv-loop : tie.InvT-loop
 Inv-loop store₀ f i₀ store i = (i ≤ 1122) × (store ≡ replicate i f ++ drop i store₀) × (length store ≡ length store₀)
@@ -17,37 +16,30 @@ Inv-loop store₀ f i₀ store i = (i ≤ 1122) × (store ≡ replicate i f ++ d
 abbrev μ-loop : tie.MeasureT-loop
 μ-loop store₀ f i₀ store i = 1122 - i
 
--- src/lib.rt:142:5
 loop-holds : tie.Need-loop-holds Inv-loop μ-loop
 loop-holds c = (omega arith, refl, refl)
 
--- src/lib.rt:143:9
 slice-write-store : tie.Need-slice-write-store Inv-loop μ-loop
 slice-write-store c = omega arith
 
--- src/lib.rt:144:9
 add-i : tie.Need-add-i Inv-loop μ-loop
 add-i c = omega arith
 
--- src/lib.rt:142:5
 loop-less : tie.Need-loop-less Inv-loop μ-loop
 loop-less c = omega arith
 
--- src/lib.rt:142:5
 loop-again : tie.Need-loop-again Inv-loop μ-loop
-loop-again c = 
+loop-again c =
     let inv = c .before .loop .inv in
     let h : c .before .loop .i < length (c .before .before .args .store .now) = omega arith in
     (omega arith, rw (inv .1) (fill-more _ _ _ h), simp length-set (inv .2))
 
--- src/lib.rt:138:1
 same-length : tie.Need-same-length Inv-loop μ-loop
 same-length c = c .before .loop .inv .2
 
--- src/lib.rt:138:1
 returns : tie.Need-returns Inv-loop μ-loop
 unfolding startStore
-returns c = 
+returns c =
     let inv = c .before .loop .inv in
     let e : c .before .loop .i ≡ length (c .before .before .args .store .now) = omega arith in
     inv .1 ∙ rw (e, drop-length) (append-nil _ ∙ ap (λ (n : ℕ). replicate n (c .before .before .args .f)) (c .before .before .pre))

@@ -1,12 +1,9 @@
-use Prim.Native.Nat.{_≤_, _-_, _<_}
+-- Every index is in range. Assumes nothing.
+use Prim.Native.Nat.{_≤_, _-_}
 use lib.ListN.{length}
 use borrow.Author.Needs.{needs}
 use Rattle.feeds.proofs.closed.differences.Statement.{statement}
 use Rattle.feeds.proofs.closed.differences.Tie as tie
-use Rattle.feeds.proofs.closed.differences.Reads as reads
-use Rattle.feeds.proofs.closed.differences.Lts as lts
-use Rattle.feeds.proofs.closed.due.Reads as due-reads
-use Rattle.std.proofs.num.wrapping_add_u64.Reads as wrapping-add-u64-reads
 
 abbrev Inv-loop : tie.InvT-loop
 Inv-loop input out back f wrong₀ t₀ wrong t = t ≤ length out
@@ -14,35 +11,27 @@ Inv-loop input out back f wrong₀ t₀ wrong t = t ≤ length out
 abbrev μ-loop : tie.MeasureT-loop
 μ-loop input out back f wrong₀ t₀ wrong t = length out - t
 
--- src/closed.rt:41:5
 loop-holds : tie.Need-loop-holds Inv-loop μ-loop
 loop-holds c = search needs
 
--- src/closed.rt:42:12
 shared-slice-read-if1 : tie.Need-shared-slice-read-if1 Inv-loop μ-loop
 shared-slice-read-if1 c = search needs
 
--- src/closed.rt:42:22
 due-requires : tie.Need-due-requires Inv-loop μ-loop
 due-requires c κs = search needs
 
--- src/closed.rt:43:13
 wrapping-add-u64-requires : tie.Need-wrapping-add-u64-requires Inv-loop μ-loop
 wrapping-add-u64-requires c κs = search needs
 
--- src/closed.rt:45:9
 add-t : tie.Need-add-t Inv-loop μ-loop
 add-t c = search needs
 
--- src/closed.rt:41:5
 loop-less : tie.Need-loop-less Inv-loop μ-loop
 loop-less c = search needs
 
--- src/closed.rt:41:5
 loop-again : tie.Need-loop-again Inv-loop μ-loop
 loop-again c = search needs
 
--- src/closed.rt:38:1
 returns : tie.Need-returns Inv-loop μ-loop
 returns c = search needs
 

@@ -1,33 +1,24 @@
+-- The first byte of a ring comes in this turn or in the next. Assumes nothing.
 use Rattle.delay.specs.Leading.{leads-on, leads-round}
 use borrow.Author.Needs.{needs}
 use Rattle.streams.proofs.Stream.lead.Statement.{statement}
 use Rattle.streams.proofs.Stream.lead.Tie as tie
-use Rattle.streams.proofs.Stream.lead.Reads as reads
-use Rattle.streams.proofs.Stream.lead.Lts as lts
-use Rattle.streams.proofs.Stream.branch.Reads as branch-reads
-use Rattle.streams.proofs.Stream.ring.Reads as ring-reads
 
--- src/lib.rt:70:13
 ring-requires : tie.Need-ring-requires
 ring-requires c κs = search needs
 
--- src/lib.rt:71:13
 branch-requires : tie.Need-branch-requires
 branch-requires c κs = search needs
 
--- src/lib.rt:73:13
 add-result : tie.Need-add-result
 add-result c = search needs
 
--- src/lib.rt:73:13
 sub-result : tie.Need-sub-result
 sub-result c = search needs
 
--- src/lib.rt:66:5
 returns : tie.Need-returns
 returns c = leads-round _ _ _ _ (c .before .before .before .pre) (c .before .before .ring .ensures .0) (c .before .branch .ensures .0) (c .if1 .taken)
 
--- src/lib.rt:66:5
 returns-2 : tie.Need-returns-2
 returns-2 c = leads-on _ _ _ _ (c .before .before .before .pre) (c .before .before .ring .ensures .0) (c .before .branch .ensures .0) (c .if1 .left)
 

@@ -1,4 +1,5 @@
-use mathlib.Core.Path.{_≡_, refl}
+-- The invariants: of a ring, its bytes below i are moved and place is the next one's; of a stretch, the same since it began. Assumes nothing.
+use mathlib.Core.Path.{refl}
 use Prim.Native.Nat.{_-_}
 use native.Mathlib.Omega.{arith}
 use lib.ListN.{length}
@@ -6,10 +7,6 @@ use Rattle.delay.specs.Loops.{Stretching, stretching-none, stretching-more, byt
 use borrow.Author.Needs.{needs}
 use Rattle.streams.proofs.rings.turn.Statement.{statement}
 use Rattle.streams.proofs.rings.turn.Tie as tie
-use Rattle.streams.proofs.rings.turn.Reads as reads
-use Rattle.streams.proofs.rings.turn.Lts as lts
-use Rattle.streams.proofs.rings.until.Reads as until-reads
-use Rattle.streams.proofs.rings.wrap.Reads as wrap-reads
 
 abbrev Inv-loop2 : tie.InvT-loop2
 Inv-loop2 branches first last from at store₀ input out₀ i₀ place₀ stop store out i place = Stretching branches first last input store₀ out₀ i₀ place₀ stop store out i place
@@ -23,75 +20,57 @@ Inv-loop branches first last from at store₀ input out₀ i₀ place₀ store o
 abbrev μ-loop : tie.MeasureT-loop
 μ-loop branches first last from at store₀ input out₀ i₀ place₀ store out i place = length input - i
 
--- src/rings.rt:55:5
 loop-holds : tie.Need-loop-holds Inv-loop2 μ-loop2 Inv-loop μ-loop
 loop-holds c = let pre = c .before .before .before .pre in rounds-none (pre .3) (pre .4) (pre .5)
 
--- src/rings.rt:56:49
 sub-until : tie.Need-sub-until Inv-loop2 μ-loop2 Inv-loop μ-loop
 sub-until c = search needs
 
--- src/rings.rt:56:13
 until-requires : tie.Need-until-requires Inv-loop2 μ-loop2 Inv-loop μ-loop
 until-requires c κs = (c .before .before .before .before .before .pre .0, c .before .loop .inv .low, omega arith)
 
--- src/rings.rt:57:9
 loop2-holds : tie.Need-loop2-holds Inv-loop2 μ-loop2 Inv-loop μ-loop
 loop2-holds c = stretching-none (omega arith) (c .until .ensures) (c .before .before .loop .inv .short) (c .before .before .loop .inv .room)
 
--- src/rings.rt:58:24
 shared-slice-read-byte : tie.Need-shared-slice-read-byte Inv-loop2 μ-loop2 Inv-loop μ-loop
 shared-slice-read-byte c = byte-left (c .before .before .loop2 .inv) (omega arith)
 
--- src/rings.rt:59:22
 slice-read-out : tie.Need-slice-read-out Inv-loop2 μ-loop2 Inv-loop μ-loop
 slice-read-out c = search needs
 
--- src/rings.rt:59:13
 slice-write-out : tie.Need-slice-write-out Inv-loop2 μ-loop2 Inv-loop μ-loop
 slice-write-out c = let inv = c .before .before .before .loop2 .inv in omega (arith, byte-left inv (omega arith), inv .room)
 
--- src/rings.rt:60:13
 slice-write-store : tie.Need-slice-write-store Inv-loop2 μ-loop2 Inv-loop μ-loop
 slice-write-store c = search needs
 
--- src/rings.rt:61:13
 add-place : tie.Need-add-place Inv-loop2 μ-loop2 Inv-loop μ-loop
 add-place c = search needs
 
--- src/rings.rt:62:13
 add-i : tie.Need-add-i Inv-loop2 μ-loop2 Inv-loop μ-loop
 add-i c = omega (arith, byte-left (c .before .before .before .loop2 .inv) (omega arith), c .before .before .before .before .before .before .before .before .before .before .good .1 .1 .1 .1 .1 .1 .0 .1)
 
--- src/rings.rt:57:9
 loop2-less : tie.Need-loop2-less Inv-loop2 μ-loop2 Inv-loop μ-loop
 loop2-less c = search needs
 
--- src/rings.rt:57:9
 loop2-again : tie.Need-loop2-again Inv-loop2 μ-loop2 Inv-loop μ-loop
 loop2-again c = stretching-more (c .before .before .before .loop2 .inv) (omega arith) refl refl
 
--- src/rings.rt:64:9
 wrap-requires : tie.Need-wrap-requires Inv-loop2 μ-loop2 Inv-loop μ-loop
 wrap-requires c κs = search needs
 
--- src/rings.rt:55:5
 loop-less : tie.Need-loop-less Inv-loop2 μ-loop2 Inv-loop μ-loop
 loop-less c = omega (arith, stretched (c .before .before .loop2 .inv) (omega arith) (c .before .before .before .before .before .before .before .before .before .pre .0))
 
--- src/rings.rt:55:5
 loop-again : tie.Need-loop-again Inv-loop2 μ-loop2 Inv-loop μ-loop
 loop-again c = rounds-more (c .before .before .before .before .before .loop .inv) (c .before .before .before .before .before .before .before .before .before .pre .2) (c .before .before .loop2 .inv) (omega arith) (c .wrap .ensures)
 
--- src/rings.rt:40:1
 same-length : tie.Need-same-length Inv-loop2 μ-loop2 Inv-loop μ-loop
 same-length c = search needs
 
--- src/rings.rt:40:1
 same-length-2 : tie.Need-same-length-2 Inv-loop2 μ-loop2 Inv-loop μ-loop
 same-length-2 c = search needs
 
--- src/rings.rt:40:1
 returns : tie.Need-returns Inv-loop2 μ-loop2 Inv-loop μ-loop
 returns c = rounds-all (c .before .loop .inv) (omega arith) (c .before .before .before .before .before .pre .5)
 
