@@ -1,10 +1,10 @@
 -- Builds that condition 3 rules out, and that no small edit of the code makes: each as a definition, with an input at which it differs,
 -- computed. Assumes nothing.
-use Prim.Native.Nat.{ℕ}
+use Prim.Native.Nat.{ℕ, _+_, _-_, _%_}
 use mathlib.Core.Bool.{cond}
 use mathlib.Core.Path.{_≡_, refl}
 use mathlib.Core.List.{List, [], _∷_, _++_}
-use lib.ListN.{getD}
+use lib.ListN.{length, getD}
 use lib.Dec.{eqb}
 use Rattle.laws.specs.Outcome.{refused, after}
 use Rattle.delay.specs.declared.Way.{Way}
@@ -43,3 +43,12 @@ no-room = record { way = Interleaver; stream = record { phase = 1 }; store = sta
 pub early-differs : (says no-room ≡ refused 6) × (getD (storeAfter no-room) 0 0 ≡ 9) × (getD (earlyStore no-room) 0 0 ≡ 2)
 unfolding startStore fedStore slotOf nextOf slotAt offset runStore
 early-differs = (refl, refl, refl)
+
+-- a build that advances the phase by one too few in each feed
+abbrev pub slowRecord : Stream → List ℕ → Stream
+slowRecord s input = record { phase = (s .phase + (length input - 1)) % 5654880 }
+
+-- phase 0 and the byte 1: the machine's next record is 1, the build's is 0
+pub slow-differs : (fedRecord startRecord first-byte .phase ≡ 1) × (slowRecord startRecord first-byte .phase ≡ 0)
+unfolding startRecord fedRecord nextOf runRecord
+slow-differs = (refl, refl)

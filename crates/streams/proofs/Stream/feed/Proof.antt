@@ -13,12 +13,12 @@ cast-if2 : tie.Need-cast-if2
 cast-if2 c = search needs
 
 returns-2 : tie.Need-returns-2
-returns-2 c = let a = eq-eqb _ _ (c .before .before .if1 .left) in let b = le-leb _ _ (c .if2 .taken) in (rw (a, b), (rw (a, b), rw (a, b)))
+returns-2 c = let a = eq-eqb _ _ (c .before .before .if1 .left) in let b = le-leb 5654880 _ (c .if2 .taken) in (rw (a, b), (rw (a, b), rw (a, b)))
 
 returns-3 : tie.Need-returns-3
 returns-3 c =
     let a = eq-eqb _ _ (c .before .before .before .if1 .left) in
-    let b = lt-leb _ _ (c .before .if2 .left) in
+    let b = lt-leb 5654880 _ (c .before .if2 .left) in
     let d = ne-eqb _ _ (c .if3 .taken) in
     (rw (a, b, d), (rw (a, b, d), rw (a, b, d)))
 
@@ -34,7 +34,7 @@ same-length-2 c = search needs
 returns-4 : tie.Need-returns-4
 returns-4 c =
     let a = eq-eqb _ _ (c .before .before .before .before .before .before .before .before .before .before .if1 .left) in
-    let b = lt-leb _ _ (c .before .before .before .before .before .before .before .before .if2 .left) in
+    let b = lt-leb 5654880 _ (c .before .before .before .before .before .before .before .before .if2 .left) in
     let d = eq-eqb _ _ (c .before .before .before .before .before .before .before .if3 .left) in
     let ran = c .before .before .before .before .run .ensures in
     (rw (a, b, d) (ap done (ran .next)), (rw (a, b, d) (ran .stored), rw (a, b, d) (ran .written)))
