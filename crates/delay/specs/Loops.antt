@@ -1,7 +1,7 @@
 -- What holds at each turn of a feed's loops: over a stretch of neighbouring places, over a ring, over the bytes that pass through, over the
 -- rings. Over the number of branches and the step. Assumes nothing.
 use Prim.Native.Nat.{ℕ, suc, _+_, _-_, _*_, _/_, _≤_, _<_}
-use mathlib.Core.Path.{_≡_, refl, ap, _∙_}
+use mathlib.Core.Path.{_≡_, refl, _∙_}
 use mathlib.Core.List.{List}
 use native.Mathlib.Nat.{mul-le-mul-left, mul-comm, div-add-mod'}
 use native.Mathlib.Numerals.{add-one}
@@ -29,33 +29,23 @@ module _ (b p last rest : ℕ) (hb : 0 < b) (h : p < last) (some : 0 < rest) whe
       all : b * last ≤ b * (p + (rest - 1) / b)
       all = mul-le-mul-left b (omega arith)
 
--- ---- a stretch, from place p₁ and byte i₁ to the place stop
+-- ---- a stretch, from place p₁ and byte i₁ to the place stop, in whatever ring
 
-pub record Stretching (b first last : ℕ) (input store₁ out₁ : List ℕ) (i₁ p₁ stop : ℕ) (store out : List ℕ) (i p : ℕ) : Type 0 where
-  pub moves : Steps b first last input store₁ out₁ i₁ p₁ store out i p
+pub record Stretching (b : ℕ) (input store₁ out₁ : List ℕ) (i₁ p₁ stop : ℕ) (store out : List ℕ) (i p : ℕ) : Type 0 where
+  pub moves : (first last : ℕ) → stop ≤ last → Steps b first last input store₁ out₁ i₁ p₁ store out i p
   pub most : p ≤ stop
-  pub ends : stop ≤ last
-  pub some : p₁ < stop
   pub fits : b * stop + i < length input + b + b * p
   pub moved : i + b * p₁ ≡ i₁ + b * p
-  pub short : last ≤ length store
+  pub short : stop ≤ length store
+  pub long : length store ≡ length store₁
   pub room : length out ≡ length input
 
-module _ {b first last : ℕ} {input store₁ out₁ : List ℕ} {i₁ p₁ stop : ℕ} where
-  pub stretching-none : i₁ < length input → Stretch b p₁ last (length input - i₁) stop → last ≤ length store₁ → length out₁ ≡ length input
-      → Stretching b first last input store₁ out₁ i₁ p₁ stop store₁ out₁ i₁ p₁
-  stretching-none h l n e = record {
-    moves = steps-none;
-    most = omega (arith, l .some);
-    ends = l .ends;
-    some = l .some;
-    fits = omega (arith, l .fits);
-    moved = refl;
-    short = n;
-    room = e;
-  }
+module _ {b : ℕ} {input store₁ out₁ : List ℕ} {i₁ p₁ stop : ℕ} where
+  pub stretching-none : p₁ ≤ stop → b * stop + i₁ < length input + b + b * p₁ → stop ≤ length store₁ → length out₁ ≡ length input
+      → Stretching b input store₁ out₁ i₁ p₁ stop store₁ out₁ i₁ p₁
+  stretching-none h l n e = record { moves = λ first last k. steps-none; most = h; fits = l; moved = refl; short = n; long = refl; room = e }
 
-  module _ {store out : List ℕ} {i p : ℕ} (g : Stretching b first last input store₁ out₁ i₁ p₁ stop store out i p) where
+  module _ {store out : List ℕ} {i p : ℕ} (g : Stretching b input store₁ out₁ i₁ p₁ stop store out i p) where
     -- there is a byte for the next place
     pub byte-left : p < stop → i < length input
     byte-left h = omega (arith, g .fits, next)
@@ -64,24 +54,19 @@ module _ {b first last : ℕ} {input store₁ out₁ : List ℕ} {i₁ p₁ stop
         next = mul-le-mul-left b (omega arith)
 
     pub stretching-more : {w v : ℕ} → p < stop → w ≡ getD input i 0 → v ≡ getD store p 0
-        → Stretching b first last input store₁ out₁ i₁ p₁ stop (set store p w) (set out i v) (i + b) (p + 1)
+        → Stretching b input store₁ out₁ i₁ p₁ stop (set store p w) (set out i v) (i + b) (p + 1)
     stretching-more {w} {v} h ew ev = record {
-      moves = steps-more (g .moves) (byte-left h) (omega (arith, g .ends)) (omega (arith, g .ends, g .short)) ew ev;
+      moves = λ first last k. steps-more (g .moves first last k) (byte-left h) (omega arith) (omega (arith, g .short)) ew ev;
       most = omega arith;
-      ends = g .ends;
-      some = g .some;
       fits = omega (arith, g .fits);
       moved = omega (arith, g .moved);
       short = simp length-set (g .short);
+      long = simp length-set (g .long);
       room = simp length-set (g .room);
     }
 
-    -- a stretch moves on
-    pub stretched : p ≡ stop → 0 < b → i₁ < i
-    stretched e hb = omega (arith, g .moved, next, ap (λ (k : ℕ). b * k) e)
-      where
-        next : b * (p₁ + 1) ≤ b * stop
-        next = mul-le-mul-left b (omega (arith, g .some))
+    pub stretching-all : p ≡ stop → Stretching b input store₁ out₁ i₁ p₁ stop store out i stop
+    stretching-all e = rw e at g
 
 -- ---- a ring, stretch by stretch
 
@@ -96,14 +81,27 @@ module _ {b first last : ℕ} {input store₀ out₀ : List ℕ} {i₀ p₀ : �
   rounds-none h n e = record { moves = steps-none; low = h; short = n; room = e }
 
   module _ {store₁ out₁ : List ℕ} {i₁ p₁ : ℕ} (g : Rounds b first last input store₀ out₀ i₀ p₀ store₁ out₁ i₁ p₁) where
-    pub rounds-more : {store out : List ℕ} {i p stop q : ℕ} → first < last → Stretching b first last input store₁ out₁ i₁ p₁ stop store out i p → p ≡ stop
-        → q ≡ wrapOf stop first last → Rounds b first last input store₀ out₀ i₀ p₀ store out i q
-    rounds-more {store} {out} {i} {p} {stop} {q} l h e w = rw (w, ← e) (record {
-      moves = steps-wrap (steps-then (g .moves) (h .moves));
-      low = wrap-low p first last l;
-      short = h .short;
-      room = h .room;
-    })
+    -- a stretch that until gives can be gone ..
+    pub stretch-fits : {stop : ℕ} → i₁ < length input → Stretch b p₁ last (length input - i₁) stop
+        → (p₁ ≤ stop) × (stop ≤ length store₁) × (b * stop + i₁ < length input + b + b * p₁)
+    stretch-fits h l = (omega (arith, l .some), omega (arith, l .ends, g .short), omega (arith, l .fits))
+
+    module _ {store out : List ℕ} {i stop rest : ℕ} (l : Stretch b p₁ last rest stop) (h : Stretching b input store₁ out₁ i₁ p₁ stop store out i stop) where
+      -- .. moves on ..
+      pub stretched : 0 < b → i₁ < i
+      stretched hb = omega (arith, h .moved, next)
+        where
+          next : b * (p₁ + 1) ≤ b * stop
+          next = mul-le-mul-left b (omega (arith, l .some))
+
+      -- .. and goes round at the ring's end
+      pub rounds-more : {q : ℕ} → first < last → q ≡ wrapOf stop first last → Rounds b first last input store₀ out₀ i₀ p₀ store out i q
+      rounds-more f w = rw w (record {
+        moves = steps-wrap (steps-then (g .moves) (h .moves first last (l .ends)));
+        low = wrap-low stop first last f;
+        short = omega (arith, g .short, h .long);
+        room = h .room;
+      })
 
     pub rounds-all : length input ≤ i₁ → length out₀ ≡ length input → Turned b first last i₀ p₀ store₀ input out₀ store₁ out₁
     rounds-all h e = steps-all (g .moves) h e

@@ -3,8 +3,7 @@
 use Prim.Native.Nat.{ℕ}
 use mathlib.Core.Bool.{not}
 use mathlib.Core.List.{List, [], _∷_}
-use mathlib.Core.Path.{_≡_}
-use native.Mathlib.Omega.{arith}
+use mathlib.Core.Path.{_≡_, refl, sym, ap, _∙_}
 use lib.ListN.{length}
 use lib.Dec.{eqb, leb}
 use Rattle.laws.specs.Outcome.{Outcome, done, refused, Line, line}
@@ -33,15 +32,28 @@ abbrev pub sayFed : Fed → Outcome ℕ Stream
 sayFed (fed.Next s) = done s
 sayFed (fed.Refused k) = refused k
 
--- answers that say the same are the same
+-- what can be read back from what is said tells any two answers apart
+apart : {X Y : Type 0} (say : X → Y) (read : Y → X) → ((a : X) → read (say a) ≡ a) → (a b : X) → say a ≡ say b → a ≡ b
+apart say read same a b e = sym (same a) ∙ ap read e ∙ same b
+
 pub started-apart : (a b : Started) → sayStarted a ≡ sayStarted b → a ≡ b
-started-apart (started.Ready s) (started.Ready r) e = cc
-started-apart (started.Ready s) (started.Refused k) e = let z : _≡_ {A = ℕ} 0 1 = cc in absurd (omega arith)
-started-apart (started.Refused k) (started.Ready s) e = let z : _≡_ {A = ℕ} 0 1 = cc in absurd (omega arith)
-started-apart (started.Refused k) (started.Refused n) e = cc
+started-apart = apart sayStarted read same
+  where
+    read : Outcome ℕ Stream → Started
+    read (done s) = started.Ready s
+    read (refused k) = started.Refused k
+
+    same : (a : Started) → read (sayStarted a) ≡ a
+    same (started.Ready s) = refl
+    same (started.Refused k) = refl
 
 pub fed-apart : (a b : Fed) → sayFed a ≡ sayFed b → a ≡ b
-fed-apart (fed.Next s) (fed.Next r) e = cc
-fed-apart (fed.Next s) (fed.Refused k) e = let z : _≡_ {A = ℕ} 0 1 = cc in absurd (omega arith)
-fed-apart (fed.Refused k) (fed.Next s) e = let z : _≡_ {A = ℕ} 0 1 = cc in absurd (omega arith)
-fed-apart (fed.Refused k) (fed.Refused n) e = cc
+fed-apart = apart sayFed read same
+  where
+    read : Outcome ℕ Stream → Fed
+    read (done s) = fed.Next s
+    read (refused k) = fed.Refused k
+
+    same : (a : Fed) → read (sayFed a) ≡ a
+    same (fed.Next s) = refl
+    same (fed.Refused k) = refl

@@ -1,8 +1,9 @@
 // The loops over one ring of a branch machine, for any number of branches. No byte divides, and no byte reads a table.
 ghost use mathlib.Core.Path.{_≡_};
-ghost use Prim.Native.Nat.{_≤_, _<_};
+ghost use Prim.Native.Nat.{_+_, _*_, _≤_, _<_};
 ghost use lib.ListN.{length};
 ghost use Rattle.delay.specs.Lane.{wrapOf, Stretch, Turned, Passed};
+ghost use Rattle.delay.specs.Loops.{Stretching};
 
 // Where a stretch from place on ends: at the ring's end, or where the bytes do. There are rest bytes left, each branches-th of this ring.
 fn until(branches: usize, place: usize, last: usize, rest: usize) -> usize
@@ -36,6 +37,32 @@ pub fn pass(branches: usize, from: usize, input: &[u8], out: &mut [u8])
     }
 }
 
+// A stretch of neighbouring places, from at to stop - 1: byte from goes to the first of them, and each branches-th after it to the next. Returns
+// the byte that comes after them.
+fn stretch(
+    branches: usize,
+    from: usize,
+    at: usize,
+    stop: usize,
+    store: &mut [u8],
+    input: &[u8],
+    out: &mut [u8],
+) -> usize
+    requires { ⌜ (branches < 65536) × (at ≤ stop) × (stop ≤ length (now store)) × (branches * stop + from < length (now input) + branches + branches * at) × (length (now out) ≡ length (now input)) ⌝ }
+    ensures { λ r. ⌜ Stretching branches (now (input .entry)) (now (store .entry)) (now (out .entry)) from at stop (now (store .exit)) (now (out .exit)) r stop ⌝ }
+{
+    let mut i = from;
+    let mut place = at;
+    while place != stop {
+        let byte = input[i];
+        out[i] = store[place];
+        store[place] = byte;
+        place += 1;
+        i += branches;
+    }
+    i
+}
+
 // The bytes of the ring at places first to last - 1: byte from, which goes to place at, and each branches-th after it.
 pub fn turn(
     branches: usize,
@@ -54,13 +81,7 @@ pub fn turn(
     let mut place = at;
     while i < input.len() {
         let stop = until(branches, place, last, input.len() - i);
-        while place != stop {
-            let byte = input[i];
-            out[i] = store[place];
-            store[place] = byte;
-            place += 1;
-            i += branches;
-        }
+        i = stretch(branches, i, place, stop, store, input, out);
         place = wrap(stop, first, last);
     }
 }
