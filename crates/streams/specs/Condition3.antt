@@ -62,12 +62,16 @@ module _ {A : Type 0} where
   one-run (fed c ew es et e cs) = joined (one-call c ew es et e) (one-run cs)
   one-run (stopped c e l cs) = rw (store-kept c e l) at (one-run cs)
 
-  -- a started machine is at byte 0, its store full of f
-  started : {f : A} {s : Stream} {store : List A} → Fresh f s store → (s ≡ phaseOf 0) × (store ≡ replicate (offset 17 12) f)
-  unfolding offset phaseOf startRecord startStore
-  started {f} h =
+  -- a start that is not refused gives its record, and a store full of f
+  pub begun : {f : A} {s : Stream} {store : List A} → Fresh f s store → (s ≡ startRecord) × (store ≡ startStore f)
+  begun {f} h =
       let clear = done-clear (λ k. k) startRecord (startLines (h .lent)) _ (h .said) in
       (sym (clear .1), h .filled ∙ buffer-new (startLines (h .lent)) (startStore f) (h .lent) (clear .0))
+
+  -- the machine is at byte 0
+  started : {f : A} {s : Stream} {store : List A} → Fresh f s store → (s ≡ phaseOf 0) × (store ≡ replicate (offset 17 12) f)
+  unfolding offset phaseOf startRecord startStore
+  started h = begun h
 
   -- its calls are the machine over t itself
   counted : {way : Way} {f : A} {s s′ : Stream} {store xs ys store′ : List A} → Fresh f s store → Calls way s store xs ys s′ store′
@@ -105,3 +109,15 @@ module _ {A : Type 0} where
       ap length (one-run c .stored) ∙ length-store (slotOf way) nextOf xs s store ∙ ap length (started h .1) ∙ length-replicate (offset 17 12) f in
       let p : s′ .phase < 5654880 = rw (last-record h c) (mod-lt (length xs) (lit< tt)) in
       rw (eq-eqb (length store′) 1122 l, lt-leb 5654880 (s′ .phase) p, eq-eqb (length out) (length input) e)
+
+  -- a feed of nothing into nothing is done and moves nothing
+  abbrev pub nothing : Way → Stream → List A → Call A
+  nothing way s store = record { way = way; stream = s; store = store; input = []; output = [] }
+
+  pub nothing-moves : (way : Way) (s : Stream) (store : List A) → length store ≡ 1122 → s .phase < 5654880
+      → (says (nothing way s store) ≡ done s) × (storeAfter (nothing way s store) ≡ store) × (outputAfter (nothing way s store) ≡ [])
+  unfolding fedOutput fedStore fedRecord runOutput runStore runRecord
+  nothing-moves way s store l p =
+      let a = eq-eqb (length store) 1122 l in
+      let b = lt-leb 5654880 (s .phase) p in
+      (rw (a, b), rw (a, b), rw (a, b))

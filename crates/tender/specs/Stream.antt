@@ -28,6 +28,14 @@ module _ {A : Type 0} where
       → (ys ≡ fedOutput way s store xs) × (s′ ≡ fedRecord s xs) × (store′ ≡ fedStore way s store xs)
   one-run calls = let r = condition3.one-run calls in (r .output, r .next, r .stored)
 
+  -- from a start with f: that run begins with start's own record and store, and it ends with the phase at the number of bytes fed
+  pub one-run-started : {way : Way} {f : A} {s s′ : Stream} {store xs ys store′ : List A} → Fresh f s store → Calls way s store xs ys s′ store′
+      → (ys ≡ fedOutput way startRecord (startStore f) xs) × (s′ ≡ phaseOf (length xs)) × (store′ ≡ fedStore way startRecord (startStore f) xs)
+  one-run-started {way} {xs = xs} fresh calls =
+      let b = condition3.begun fresh in
+      let r = condition3.one-run calls in
+      (cc (r .output, b .0, b .1), condition3.last-record fresh calls, cc (r .stored, b .0, b .1))
+
   -- after a start with f, output t is input t - 204·(t mod 12), or f where there is no such byte
   pub delayed : {f : A} {s s′ : Stream} {store xs ys store′ : List A} → Fresh f s store → Calls Interleaver s store xs ys s′ store′
       → (t : ℕ) → t < length xs

@@ -13,7 +13,7 @@ same-length-2 : tie.Need-same-length-2
 same-length-2 c = search needs
 
 returns : tie.Need-returns
-returns c = c .before .before .before .before .feed .ensures
+returns c = let fed = c .before .before .before .before .feed .ensures in (fed .0, (fed .1 .0, fed .1 .1))
 
 pub interleave-spec : {M : Type 1} → statement M
 interleave-spec = tie.close (tie.spec feed-requires same-length same-length-2 returns)
