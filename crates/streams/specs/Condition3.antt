@@ -2,7 +2,7 @@
 -- type, and with no bound on how many. Assumes nothing.
 use Prim.Native.Nat.{ℕ, suc, _*_, _%_, _<_}
 use mathlib.Core.Path.{_≡_, refl, sym, ap, _∙_}
-use mathlib.Core.List.{List, _++_}
+use mathlib.Core.List.{List, [], _++_}
 use native.Mathlib.Nat.{zero-add, mod-lt}
 use lib.ListN.{length, getD, replicate, take, length-replicate}
 use lib.Dec.{lit<}
