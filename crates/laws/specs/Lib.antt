@@ -18,3 +18,4 @@ pub mod Entries
 pub mod Bare
 pub mod Loop
 pub mod Blind
+pub mod Sentences

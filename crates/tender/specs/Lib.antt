@@ -1,1 +1,2 @@
 pub mod Condition2
+pub mod Stream

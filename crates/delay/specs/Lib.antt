@@ -1,0 +1,11 @@
+pub mod Machine
+pub mod Slots
+pub mod Cuts
+pub mod Delay
+pub mod Round
+pub mod Lane
+pub mod Past
+pub mod Laning
+pub mod Turning
+pub mod Loops
+pub mod Leading

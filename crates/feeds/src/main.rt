@@ -1,0 +1,234 @@
+// Feeds 30,000 bytes through the interleaver, and what comes out through a deinterleaver, cut raggedly and with refused calls between.
+// Every byte is compared with the closed form, which divides and shares nothing with the feed. Once from a start, and once from a
+// record at phase 5,654,868, a multiple of 12 just before the phase's end, with a filled store.
+mod closed;
+
+use libc::STDOUT_FILENO;
+use streams::Fed;
+use streams::Started;
+use streams::Stream;
+ghost use Prim.Native.Nat.{_≤_};
+
+// How often a machine was called, refused with 7, 9, 6 or anything else, and how many bytes it took.
+pub struct Tally {
+    pub calls: u64,
+    pub seven: u64,
+    pub nine: u64,
+    pub six: u64,
+    pub other: u64,
+    pub bytes: u64,
+}
+
+fn plus(a: u64, b: u64) -> u64 {
+    std::num::wrapping_add_u64(a, b)
+}
+
+fn one_if(a: u32, b: u32) -> u64 {
+    if a == b { 1 } else { 0 }
+}
+
+impl Tally {
+    fn none() -> Self {
+        Tally {
+            calls: 0,
+            seven: 0,
+            nine: 0,
+            six: 0,
+            other: 0,
+            bytes: 0,
+        }
+    }
+
+    // A call more: its refusal, or 0 and the bytes it took.
+    fn add(self, refusal: u32, bytes: u64) -> Self {
+        let seven = one_if(refusal, 7);
+        let nine = one_if(refusal, 9);
+        let six = one_if(refusal, 6);
+        let done = one_if(refusal, 0);
+        let known = plus(plus(seven, nine), plus(six, done));
+        Tally {
+            calls: plus(self.calls, 1),
+            seven: plus(self.seven, seven),
+            nine: plus(self.nine, nine),
+            six: plus(self.six, six),
+            other: plus(self.other, if known == 0 { 1 } else { 0 }),
+            bytes: plus(self.bytes, if refusal == 0 { bytes } else { 0 }),
+        }
+    }
+}
+
+fn shorter(a: usize, b: usize) -> usize
+    ensures { λ r. ⌜ (r ≤ a) × (r ≤ b) ⌝ }
+{
+    if a < b { a } else { b }
+}
+
+// The length of call k, from 0 up, each fourth a long one; never more than is left.
+fn length_of(k: usize, left: usize) -> usize
+    ensures { λ r. ⌜ r ≤ left ⌝ }
+{
+    if k % 4 == 3 {
+        return shorter(k % 300 * 4, left);
+    }
+    shorter(k % 29, left)
+}
+
+fn feed(back: bool, s: Stream, store: &mut [u8], input: &[u8], out: &mut [u8]) -> Fed {
+    if back {
+        return streams::deinterleave(s, store, input, out);
+    }
+    streams::interleave(s, store, input, out)
+}
+
+fn refusal(f: Fed) -> u32 {
+    match f {
+        Fed::Next(_) => 0,
+        Fed::Refused(k) => k,
+    }
+}
+
+fn record(f: Fed, s: Stream) -> Stream {
+    match f {
+        Fed::Next(r) => r,
+        Fed::Refused(_) => s,
+    }
+}
+
+// The k-th call that is to be refused: by a store one byte short, a record out of its range, an input one byte short; of either way.
+fn refused(k: usize, s: Stream, store: &mut [u8], input: &[u8], out: &mut [u8]) -> u32 {
+    let back = k % 2 == 0;
+    if store.len() == 0 {
+        return 0;
+    }
+    if input.len() == 0 {
+        return 0;
+    }
+    let short = store.len() - 1;
+    let less = input.len() - 1;
+    if k % 3 == 0 {
+        return refusal(feed(back, s, &mut store[..short], input, out));
+    }
+    if k % 3 == 1 {
+        let past = Stream {
+            phase: 5654880 + (k % 1000) as u32,
+        };
+        return refusal(feed(back, past, store, input, out));
+    }
+    refusal(feed(back, s, store, &input[..less], out))
+}
+
+// A machine part way: its record, how many bytes it took, and its tally.
+pub struct Going {
+    pub s: Stream,
+    pub at: usize,
+    pub tally: Tally,
+}
+
+// The k-th call that is done.
+fn step(k: usize, back: bool, now: Going, store: &mut [u8], input: &[u8], out: &mut [u8]) -> Going {
+    let s = now.s;
+    let all = shorter(input.len(), out.len());
+    let at = shorter(now.at, all);
+    let n = length_of(k, all - at);
+    let e = at + n;
+    let got = feed(back, s, store, &input[at..e], &mut out[at..e]);
+    let tally = now.tally.add(refusal(got), n as u64);
+    let next = record(got, s);
+    Going {
+        s: next,
+        at: e,
+        tally,
+    }
+}
+
+// The k-th call that is refused, and then the k-th that is done.
+fn turn(k: usize, back: bool, now: Going, store: &mut [u8], input: &[u8], out: &mut [u8]) -> Going {
+    let s = now.s;
+    let at = now.at;
+    let no = refused(k, s, store, input, out);
+    let tally = now.tally.add(no, 0);
+    step(k, back, Going { s, at, tally }, store, input, out)
+}
+
+// Every byte of the input, from the record and the store, the first call that with the number from.
+fn run(
+    from: usize,
+    back: bool,
+    s: Stream,
+    store: &mut [u8],
+    input: &[u8],
+    out: &mut [u8],
+) -> Tally {
+    let tally = Tally::none();
+    let mut now = Going { s, at: 0, tally };
+    let mut k = from % 100;
+    while k < 300 {
+        now = turn(k, back, now, store, input, out);
+        k += 1;
+    }
+    now.tally
+}
+
+// A store filled with f, and the record at the phase; at phase 0 the one that start gives.
+fn begin(store: &mut [u8], f: u8, phase: u32) -> Stream {
+    let answer = streams::start(store, f);
+    if let Started::Ready(s) = answer {
+        if phase == 0 {
+            return s;
+        }
+    }
+    Stream { phase }
+}
+
+fn number(text: &[u8], n: u64) {
+    io::write_all(STDOUT_FILENO, text);
+    io::print_decimal(STDOUT_FILENO, n);
+}
+
+fn report(back: bool, t: Tally, checksum: u64, differences: u64) {
+    if back {
+        io::write_all(STDOUT_FILENO, b"deinterleaver");
+    } else {
+        io::write_all(STDOUT_FILENO, b"interleaver");
+    }
+    number(b" calls ", t.calls);
+    number(b" refused 7 ", t.seven);
+    number(b" 9 ", t.nine);
+    number(b" 6 ", t.six);
+    number(b" other ", t.other);
+    number(b" bytes ", t.bytes);
+    number(b" checksum ", checksum);
+    number(b" differences ", differences);
+    io::write_all(STDOUT_FILENO, b"\n");
+}
+
+// One machine, in a store of its own, from the phase; what comes out is compared with what the first input makes due.
+fn machine(back: bool, phase: u32, f: u8, first: &[u8], input: &[u8], out: &mut [u8]) {
+    let mut store = [0u8; 1122];
+    let s = begin(&mut store, f, phase);
+    let from = if back { 23 } else { 0 };
+    let tally = run(from, back, s, &mut store, input, out);
+    report(
+        back,
+        tally,
+        closed::checksum(out),
+        closed::differences(first, out, back, f),
+    );
+}
+
+// Both machines, the deinterleaver cut in its own way.
+fn both(phase: u32, f: u8) {
+    let mut input = [0u8; 30000];
+    let mut sent = [0u8; 30000];
+    let mut back = [0u8; 30000];
+    closed::samples(&mut input);
+    machine(false, phase, f, &input, &input, &mut sent);
+    machine(true, phase, f, &input, &sent, &mut back);
+}
+
+fn main() {
+    io::write_all(STDOUT_FILENO, b"from a start\n");
+    both(0, 165);
+    io::write_all(STDOUT_FILENO, b"from phase 5654868\n");
+    both(5654868, 60);
+}

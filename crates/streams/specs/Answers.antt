@@ -1,0 +1,59 @@
+-- What a start and a feed say: the lines that refuse them, in the order of the checks, and the answers in the paper's numbers and values.
+-- Rests on the pattern of every call. Assumes nothing.
+use Prim.Native.Nat.{ℕ}
+use mathlib.Core.Bool.{not}
+use mathlib.Core.List.{List, [], _∷_}
+use mathlib.Core.Path.{_≡_, refl, sym, ap, _∙_}
+use lib.ListN.{length}
+use lib.Dec.{eqb, leb}
+use Rattle.laws.specs.Outcome.{Outcome, done, refused, Line, line}
+use Rattle.streams.specs.declared.Stream.{Stream}
+use Rattle.streams.specs.declared.Started.{Started}
+use Rattle.streams.specs.declared.Started.the-variants as started
+use Rattle.streams.specs.declared.Fed.{Fed}
+use Rattle.streams.specs.declared.Fed.the-variants as fed
+
+module _ {A : Type 0} where
+  -- 7: the store isn't 1,122 bytes
+  abbrev pub startLines : List A → List Line
+  startLines store = line 7 (not (eqb (length store) 1122)) ∷ []
+
+  -- 7 again; 9: the phase is 5,654,880 or more; 6: the output's length isn't the input's
+  abbrev pub feedLines : Stream → List A → List A → List A → List Line
+  feedLines s store input out =
+      line 7 (not (eqb (length store) 1122)) ∷ line 9 (leb 5654880 (s .phase)) ∷ line 6 (not (eqb (length out) (length input))) ∷ []
+
+-- the answers, by cases
+abbrev pub sayStarted : Started → Outcome ℕ Stream
+sayStarted (started.Ready s) = done s
+sayStarted (started.Refused k) = refused k
+
+abbrev pub sayFed : Fed → Outcome ℕ Stream
+sayFed (fed.Next s) = done s
+sayFed (fed.Refused k) = refused k
+
+-- what can be read back from what is said tells any two answers apart
+apart : {X Y : Type 0} (say : X → Y) (read : Y → X) → ((a : X) → read (say a) ≡ a) → (a b : X) → say a ≡ say b → a ≡ b
+apart say read same a b e = sym (same a) ∙ ap read e ∙ same b
+
+pub started-apart : (a b : Started) → sayStarted a ≡ sayStarted b → a ≡ b
+started-apart = apart sayStarted read same
+  where
+    read : Outcome ℕ Stream → Started
+    read (done s) = started.Ready s
+    read (refused k) = started.Refused k
+
+    same : (a : Started) → read (sayStarted a) ≡ a
+    same (started.Ready s) = refl
+    same (started.Refused k) = refl
+
+pub fed-apart : (a b : Fed) → sayFed a ≡ sayFed b → a ≡ b
+fed-apart = apart sayFed read same
+  where
+    read : Outcome ℕ Stream → Fed
+    read (done s) = fed.Next s
+    read (refused k) = fed.Refused k
+
+    same : (a : Fed) → read (sayFed a) ≡ a
+    same (fed.Next s) = refl
+    same (fed.Refused k) = refl

@@ -1,0 +1,123 @@
+-- Condition 3: calls cut anywhere are one run; what comes out of a started machine, and of the two one behind the other. Over bytes of any
+-- type, and with no bound on how many. Assumes nothing.
+use Prim.Native.Nat.{ℕ, suc, _*_, _%_, _<_}
+use mathlib.Core.Path.{_≡_, refl, sym, ap, _∙_}
+use mathlib.Core.List.{List, [], _++_}
+use native.Mathlib.Nat.{zero-add, mod-lt}
+use lib.ListN.{length, getD, replicate, take, length-replicate}
+use lib.Dec.{lit<}
+use borrow.Author.Tests.{eq-eqb, lt-leb}
+use Rattle.laws.specs.Outcome.{done, refused, judged, done-clear, refused-first, buffer-kept, buffer-new}
+use Rattle.delay.specs.declared.Way.{Way}
+use Rattle.delay.specs.declared.Way.the-variants.{Interleaver, Deinterleaver}
+use Rattle.delay.specs.Machine.{offset, slotAt, runOutput, runStore, runRecord, delayAt, late}
+use Rattle.delay.specs.Cuts.{output-cut, store-cut, record-cut, length-output, length-store}
+use Rattle.delay.specs.Delay.{fresh}
+use Rattle.delay.specs.Round.{round, late-list}
+use Rattle.streams.specs.declared.Stream.{Stream}
+use Rattle.streams.specs.Dvb.{slotOf, nextOf, startRecord, startStore, fedOutput, fedStore, fedRecord}
+use Rattle.streams.specs.Answers.{startLines, feedLines}
+use Rattle.streams.specs.Phase.{phaseOf, output-phase, record-phase}
+use Rattle.streams.specs.Calls.{Fresh, Call, linesOf, says, storeAfter, outputAfter, Lent, part, other, storeLeft, Calls, none, fed, stopped}
+
+-- one run over xs: its output, its record, its store
+pub record OneRun {A : Type 0} (way : Way) (s : Stream) (store xs ys : List A) (s′ : Stream) (store′ : List A) : Type 0 where
+  pub output : ys ≡ fedOutput way s store xs
+  pub next : s′ ≡ fedRecord s xs
+  pub stored : store′ ≡ fedStore way s store xs
+
+module _ {A : Type 0} where
+  -- an accepted call is one
+  one-call : (c : Call A) {way : Way} {s r : Stream} {store : List A} → c .way ≡ way → c .stream ≡ s → c .store ≡ store → says c ≡ done r
+      → OneRun way s store (c .input) (outputAfter c) r (storeAfter c)
+  one-call c ew es et e =
+      let clear = done-clear (λ k. k) (fedRecord (c .stream) (c .input)) (linesOf c) _ e in
+      record {
+        output = cc (buffer-new (linesOf c) (fedOutput (c .way) (c .stream) (c .store) (c .input)) (c .output) (clear .0));
+        next = cc (clear .1);
+        stored = cc (buffer-new (linesOf c) (fedStore (c .way) (c .stream) (c .store) (c .input)) (c .store) (clear .0));
+      }
+
+  -- a refused one leaves the machine's store as it was
+  store-kept : {store : List A} (c : Call A) {k : ℕ} → says c ≡ refused k → (l : Lent store (c .store)) → storeLeft l (storeAfter c) ≡ store
+  store-kept c e (other lent) = refl
+  store-kept c {k} e (part before lent behind w) =
+      let given = refused-first (λ n. n) (fedRecord (c .stream) (c .input)) (linesOf c) k e in
+      ap (λ (l : List A). before ++ (l ++ behind)) (buffer-kept (linesOf c) (given .number) _ lent (given .its-line)) ∙ sym w
+
+  -- two runs, the second from where the first ended
+  joined : {way : Way} {s r s′ : Stream} {store store₁ store′ xs ys us vs : List A}
+      → OneRun way s store xs ys r store₁ → OneRun way r store₁ us vs s′ store′ → OneRun way s store (xs ++ us) (ys ++ vs) s′ store′
+  unfolding fedOutput fedStore fedRecord
+  joined {way} {s} {store = store} {xs = xs} {us = us} a b = record {
+    output = cc (output-cut (slotOf way) nextOf xs us s store);
+    next = cc (record-cut (slotOf way) nextOf xs us s);
+    stored = cc (store-cut (slotOf way) nextOf xs us s store);
+  }
+
+  -- however the input was cut, and whatever was refused between: one run over the joined input
+  pub one-run : {way : Way} {s s′ : Stream} {store xs ys store′ : List A} → Calls way s store xs ys s′ store′ → OneRun way s store xs ys s′ store′
+  unfolding fedOutput fedStore fedRecord runOutput runStore runRecord
+  one-run none = record { output = refl; next = refl; stored = refl }
+  one-run (fed c ew es et e cs) = joined (one-call c ew es et e) (one-run cs)
+  one-run (stopped c e l cs) = rw (store-kept c e l) at (one-run cs)
+
+  -- a start that is not refused gives its record, and a store full of f
+  pub begun : {f : A} {s : Stream} {store : List A} → Fresh f s store → (s ≡ startRecord) × (store ≡ startStore f)
+  begun {f} h =
+      let clear = done-clear (λ k. k) startRecord (startLines (h .lent)) _ (h .said) in
+      (sym (clear .1), h .filled ∙ buffer-new (startLines (h .lent)) (startStore f) (h .lent) (clear .0))
+
+  -- the machine is at byte 0
+  started : {f : A} {s : Stream} {store : List A} → Fresh f s store → (s ≡ phaseOf 0) × (store ≡ replicate (offset 17 12) f)
+  unfolding offset phaseOf startRecord startStore
+  started h = begun h
+
+  -- its calls are the machine over t itself
+  counted : {way : Way} {f : A} {s s′ : Stream} {store xs ys store′ : List A} → Fresh f s store → Calls way s store xs ys s′ store′
+      → ys ≡ runOutput (slotAt way 12 17) suc 0 (replicate (offset 17 12) f) xs
+  counted {way} {f} {xs = xs} h c =
+      let i = started h in
+      one-run c .output ∙ rw (i .0, i .1) (output-phase way 0 (replicate (offset 17 12) f) xs)
+
+  -- output t is input t - 204·(t mod 12), or f where there is no such byte
+  pub delayed : {f : A} {s s′ : Stream} {store xs ys store′ : List A} → Fresh f s store → Calls Interleaver s store xs ys s′ store′
+      → (t : ℕ) → t < length xs → getD ys t f ≡ late f (204 * (t % 12)) (λ n. getD xs n f) t
+  unfolding delayAt
+  delayed {f} {xs = xs} h c t l = rw (counted h c) (fresh Interleaver 12 17 (lit< tt) (lit< tt) f xs t l)
+
+  -- a fresh deinterleaver, with its own store and its own cutting, gives the input again, 2,244 late behind f
+  pub returned : {f : A} {s s′ d d′ : Stream} {store store′ store₁ store₂ xs ys zs : List A}
+      → Fresh f s store → Calls Interleaver s store xs ys s′ store′ → Fresh f d store₁ → Calls Deinterleaver d store₁ ys zs d′ store₂
+      → zs ≡ take (length xs) (replicate 2244 f ++ xs)
+  returned {f} {xs = xs} {ys = ys} {zs = zs} h c g e =
+      let a : length ys ≡ length xs = ap length (counted h c) ∙ length-output (slotAt Interleaver 12 17) suc xs 0 (replicate (offset 17 12) f) in
+      let b : length zs ≡ length ys = ap length (counted g e) ∙ length-output (slotAt Deinterleaver 12 17) suc ys 0 (replicate (offset 17 12) f) in
+      late-list f 2244 xs zs (b ∙ a) (λ t l. rw (counted g e, counted h c) (round 12 17 (lit< tt) (lit< tt) f xs t l))
+
+  -- the record after it all: as many bytes as were fed, modulo 5,654,880
+  pub last-record : {way : Way} {f : A} {s s′ : Stream} {store xs ys store′ : List A} → Fresh f s store → Calls way s store xs ys s′ store′
+      → s′ ≡ phaseOf (length xs)
+  last-record {way} {xs = xs} h c = one-run c .next ∙ rw (started h .0) (record-phase way 0 xs) ∙ ap phaseOf (zero-add (length xs))
+
+  -- and the next call is refused only where its lengths differ
+  pub goes-on : {way : Way} {f : A} {s s′ : Stream} {store xs ys store′ : List A} → Fresh f s store → Calls way s store xs ys s′ store′
+      → (input out : List A) → length out ≡ length input → judged (λ k. k) (feedLines s′ store′ input out) (fedRecord s′ input) ≡ done (fedRecord s′ input)
+  unfolding offset phaseOf fedStore
+  goes-on {way} {f} {s} {s′} {store} {xs} {ys} {store′} h c input out e =
+      let l : length store′ ≡ 1122 =
+      ap length (one-run c .stored) ∙ length-store (slotOf way) nextOf xs s store ∙ ap length (started h .1) ∙ length-replicate (offset 17 12) f in
+      let p : s′ .phase < 5654880 = rw (last-record h c) (mod-lt (length xs) (lit< tt)) in
+      rw (eq-eqb (length store′) 1122 l, lt-leb 5654880 (s′ .phase) p, eq-eqb (length out) (length input) e)
+
+  -- a feed of nothing into nothing is done and moves nothing
+  abbrev pub nothing : Way → Stream → List A → Call A
+  nothing way s store = record { way = way; stream = s; store = store; input = []; output = [] }
+
+  pub nothing-moves : (way : Way) (s : Stream) (store : List A) → length store ≡ 1122 → s .phase < 5654880
+      → (says (nothing way s store) ≡ done s) × (storeAfter (nothing way s store) ≡ store) × (outputAfter (nothing way s store) ≡ [])
+  unfolding fedOutput fedStore fedRecord runOutput runStore runRecord
+  nothing-moves way s store l p =
+      let a = eq-eqb (length store) 1122 l in
+      let b = lt-leb 5654880 (s .phase) p in
+      (rw (a, b), rw (a, b), rw (a, b))

@@ -1,0 +1,91 @@
+-- The DVB stream in the tender's words: condition 3, and what conditions 1 and 2 say of start and feed. A call is what the contracts of start,
+-- interleave and deinterleave say of it (Call, says, storeAfter, outputAfter). Each theorem is proved beside its subject. Assumes nothing.
+use Prim.Native.Nat.{ℕ, suc, _+_, _-_, _*_, _%_, _≤_, _<_}
+use mathlib.Core.Logic.{_↔_}
+use mathlib.Core.List.{List, _++_, map}
+use mathlib.Core.Path.{_≡_, sym, ap, _∙_}
+use native.Mathlib.Omega.{arith}
+use lib.ListN.{length, getD, replicate, take}
+use Rattle.laws.specs.Outcome.{refused, judged, after}
+use Rattle.laws.specs.Sentences.{FirstTrue}
+use Rattle.delay.specs.declared.Way.{Way}
+use Rattle.delay.specs.declared.Way.the-variants.{Interleaver, Deinterleaver}
+use Rattle.delay.specs.Machine.{slotAt, late, runOutput, runStore}
+use Rattle.delay.specs.Delay.{late-early, late-from}
+use Rattle.streams.specs.declared.Stream.{Stream}
+use Rattle.streams.specs.Dvb.{startRecord, startStore, fedOutput, fedStore, fedRecord}
+use Rattle.streams.specs.Answers.{startLines}
+use Rattle.streams.specs.Calls.{Fresh, Call, says, storeAfter, outputAfter, Calls}
+use Rattle.streams.specs.Phase.{phaseOf, output-phase, store-phase}
+use Rattle.streams.specs.Condition3 as condition3
+use Rattle.streams.specs.Blind as blindness
+use Rattle.streams.specs.Refusals.{startSentences, feedSentences}
+use Rattle.streams.specs.Refusals as refusals
+
+module _ {A : Type 0} where
+  -- condition 3: any calls, cut anywhere, with refused ones between, are one run over the joined input: its output, its record, its store
+  pub one-run : {way : Way} {s s′ : Stream} {store xs ys store′ : List A} → Calls way s store xs ys s′ store′
+      → (ys ≡ fedOutput way s store xs) × (s′ ≡ fedRecord s xs) × (store′ ≡ fedStore way s store xs)
+  one-run calls = let r = condition3.one-run calls in (r .output, r .next, r .stored)
+
+  -- from a start with f: that run begins with start's own record and store, and it ends with the phase at the number of bytes fed
+  pub one-run-started : {way : Way} {f : A} {s s′ : Stream} {store xs ys store′ : List A} → Fresh f s store → Calls way s store xs ys s′ store′
+      → (ys ≡ fedOutput way startRecord (startStore f) xs) × (s′ ≡ phaseOf (length xs)) × (store′ ≡ fedStore way startRecord (startStore f) xs)
+  one-run-started {way} {xs = xs} fresh calls =
+      let b = condition3.begun fresh in
+      let r = condition3.one-run calls in
+      (cc (r .output, b .0, b .1), condition3.last-record fresh calls, cc (r .stored, b .0, b .1))
+
+  -- after a start with f, output t is input t - 204·(t mod 12), or f where there is no such byte
+  pub delayed : {f : A} {s s′ : Stream} {store xs ys store′ : List A} → Fresh f s store → Calls Interleaver s store xs ys s′ store′
+      → (t : ℕ) → t < length xs
+      → (t < 204 * (t % 12) → getD ys t f ≡ f) × (204 * (t % 12) ≤ t → getD ys t f ≡ getD xs (t - 204 * (t % 12)) f)
+  delayed {f} {xs = xs} fresh calls t h =
+      let e = condition3.delayed fresh calls t h in
+      let d = 204 * (t % 12) in (
+        λ early. e ∙ late-early f d (λ n. getD xs n f) t early,
+        λ there.
+            let k : t - d + d ≡ t = omega (arith, there) in
+            e ∙ sym (ap (late f d (λ n. getD xs n f)) k) ∙ late-from f d (λ n. getD xs n f) (t - d),
+      )
+
+  -- a fresh deinterleaver, with its own store and its own cutting, gives the input again, 2,244 bytes late behind f
+  pub returned : {f : A} {s s′ d d′ : Stream} {store store′ store₁ store₂ xs ys zs : List A}
+      → Fresh f s store → Calls Interleaver s store xs ys s′ store′ → Fresh f d store₁ → Calls Deinterleaver d store₁ ys zs d′ store₂
+      → zs ≡ take (length xs) (replicate 2244 f ++ xs)
+  returned fresh calls again back = condition3.returned fresh calls again back
+
+  -- the wrap of the phase at 5,654,880 changes nothing: a feed from byte t is the machine that counts t without end
+  pub wrap : (way : Way) (t : ℕ) (store input : List A)
+      → (fedOutput way (phaseOf t) store input ≡ runOutput (slotAt way 12 17) suc t store input)
+      × (fedStore way (phaseOf t) store input ≡ runStore (slotAt way 12 17) suc t store input)
+  wrap way t store input = (output-phase way t store input, store-phase way t store input)
+
+  -- condition 1: a number is said exactly when its sentence holds and none before it does ..
+  pub refusal-order-start : (store : List A) (k : ℕ) → (judged (λ n. n) (startLines store) startRecord ≡ refused k) ↔ FirstTrue (startSentences store) k
+  refusal-order-start store k = refusals.refusal-order-start store k
+
+  pub refusal-order-feed : (c : Call A) (k : ℕ) → (says c ≡ refused k) ↔ FirstTrue (feedSentences c) k
+  refusal-order-feed c k = refusals.refusal-order-feed c k
+
+  -- .. and then the call says that number alone, and changes no byte of what it was lent
+  pub refused-alone-start : (store : List A) (f : A) (k : ℕ) → FirstTrue (startSentences store) k
+      → (judged (λ n. n) (startLines store) startRecord ≡ refused k) × (after (startLines store) (startStore f) store ≡ store)
+  refused-alone-start store f k h = refusals.refused-alone-start store f k h
+
+  pub refused-alone-feed : (c : Call A) (k : ℕ) → FirstTrue (feedSentences c) k
+      → (says c ≡ refused k) × (storeAfter c ≡ c .store) × (outputAfter c ≡ c .output)
+  refused-alone-feed c k h = refusals.refused-alone-feed c k h
+
+-- condition 2: store, fill and input changed alike by any function from any type to any other, start and feed do the same to the changed bytes
+module _ {A B : Type 0} (g : A → B) where
+  pub blind-start : (store : List A) (f : A)
+      → (judged (λ n. n) (startLines (map g store)) startRecord ≡ judged (λ n. n) (startLines store) startRecord)
+      × (after (startLines (map g store)) (startStore (g f)) (map g store) ≡ map g (after (startLines store) (startStore f) store))
+  blind-start store f = blindness.start-blind g store f
+
+  pub blind-feed : (c : Call A)
+      → (says (blindness.changed g c) ≡ says c)
+      × (storeAfter (blindness.changed g c) ≡ map g (storeAfter c))
+      × (outputAfter (blindness.changed g c) ≡ map g (outputAfter c))
+  blind-feed c = blindness.feed-blind g c
