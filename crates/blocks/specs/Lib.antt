@@ -1,2 +1,3 @@
 pub mod Answer
 pub mod Passed
+pub mod Laws
