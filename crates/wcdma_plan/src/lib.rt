@@ -68,7 +68,8 @@ fn cols_of(k: usize, r: usize, p: usize) -> usize
     requires { ⌜ ColsIn k r p ⌝ }
     ensures { λ c. ⌜ c ≡ cols k ⌝ }
 {
-    if is_within(481, 530, k) {
+    let own = is_within(481, 530, k);
+    if own {
         return p;
     }
     if k <= r * (p - 1) {

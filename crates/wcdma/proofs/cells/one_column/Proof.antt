@@ -46,10 +46,13 @@ loop-again : tie.Need-loop-again Inv-loop μ-loop
 loop-again c =
     let a = c .before .before .before .before .before .before .before .before .args in
     let l = c .before .before .before .before .before .before .loop in
-    let f = c .before .before .one-cell .ensures in
-    (omega (arith, c .before .before .before .before .before .loop-test .taken), f .exponents,
+    let f = c .before .before .one-cell .ensures in (
+      omega (arith, c .before .before .before .before .before .loop-test .taken),
+      f .exponents,
       (λ c₀ o x. rw (sym (add-assoc (a .j * rows (a .shape .k)) (l .i) 1)) (f .goes c₀ o (l .inv .2 c₀ o x))),
-      omega (arith, f .most, l .inv .3), f .same ∙ l .inv .4)
+      omega (arith, f .most, l .inv .3),
+      f .same ∙ l .inv .4,
+    )
 
 same-length : tie.Need-same-length Inv-loop μ-loop
 same-length c = c .before .loop .inv .4

@@ -1,0 +1,1 @@
+// The conditions of the tender as theorems: specs/ has them. No code.
