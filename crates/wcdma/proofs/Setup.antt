@@ -1,8 +1,8 @@
 -- What the walk hands to its parts, and what its answer says. Assumes nothing.
-use Prim.Native.Nat.{ℕ, _+_, _*_, _-_, _/_, _%_, _≤_, _<_}
+use Prim.Native.Nat.{ℕ, _-_, _/_, _%_, _≤_, _<_}
 use mathlib.Core.Bool.{Bool, true, false, not, cond}
 use mathlib.Core.List.{List, _++_}
-use mathlib.Core.Path.{_≡_, refl, ap, ap₂, sym, _∙_, subst}
+use mathlib.Core.Path.{_≡_, refl, ap, ap₂, sym, _∙_}
 use native.Mathlib.Nat.{div-le-of-le-mul, mod-lt, div-add-mod'}
 use native.Mathlib.Omega.{arith}
 use lib.Dec.{eqb}
@@ -13,16 +13,16 @@ use Rattle.wcdma_plan.specs.declared.Shape.{Shape}
 use Rattle.wcdma_plan.specs.Rectangle.{Size, rows, prime, cols, cells}
 use Rattle.wcdma_plan.specs.Powers.{power, root}
 use Rattle.wcdma_plan.specs.Numbers.{qOf, allFound, searchFails}
-use Rattle.wcdma_plan.specs.Shape.{rows-pos, rows-le, cols-high, prime-small}
+use Rattle.wcdma_plan.specs.Shape.{rows-pos, cols-high, prime-small}
 use Rattle.wcdma_plan.specs.Roots.{prime-root, power-pos}
 use Rattle.wcdma_plan.specs.Post.{ShapeOf, NumbersOf, shortBy}
 use Rattle.wcdma.specs.declared.TurboWalk.{TurboWalk}
 use Rattle.wcdma.specs.declared.TurboWalk.the-variants.{Went, GaveUp}
-use Rattle.wcdma.specs.Turbo.{address, addresses, turboL, turboM, walkList, walkCells}
+use Rattle.wcdma.specs.Turbo.{addresses, turboL}
 use Rattle.wcdma.specs.Answers.{searchLines, Counts, counts, walkCounts, walkSlice, sayWalk}
 use Rattle.wcdma.specs.Law.{as-many}
 use Rattle.wcdma.specs.Walks.{walk-whole}
-use Rattle.wcdma.specs.Post.{SearchOf, ByIn, LayIn, Rows, Exponents, FillIn, WentOf}
+use Rattle.wcdma.specs.Post.{SearchOf, ByIn, Rows, Exponents, FillIn, WentOf}
 
 pub short-le : (c p x : ℕ) → x ≡ shortBy c p → x ≤ 1
 short-le c p x e = rw e (go (eqb c (p - 1)))

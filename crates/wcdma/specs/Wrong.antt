@@ -1,6 +1,6 @@
 -- A wrong build that no edit of the code gives, as a definition, and where it differs from the walk: at K 41 the sixth cell is padding, and
 -- a walk from cell 0 with room for 5 stops before it. Both sides are computed. Assumes nothing.
-use Prim.Native.Nat.{ℕ, zero, suc, _-_}
+use Prim.Native.Nat.{ℕ, zero, suc}
 use mathlib.Core.Bool.{Bool, cond}
 use mathlib.Core.Path.{_≡_, refl}
 use Rattle.laws.specs.Keep.{steps}

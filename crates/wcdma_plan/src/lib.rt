@@ -3,10 +3,9 @@
 mod tables;
 
 ghost use mathlib.Core.Path.{_≡_};
-ghost use mathlib.Core.Bool.{cond, _||_};
-ghost use Prim.Native.Nat.{ℕ, _+_, _*_, _-_, _%_, _<_, _≤_};
+ghost use Prim.Native.Nat.{ℕ, _+_, _*_, _-_, _%_, _<_};
 ghost use lib.ListN.{getD};
-ghost use Rattle.wcdma_plan.specs.Rectangle.{Size, within, rows, prime, cols};
+ghost use Rattle.wcdma_plan.specs.Rectangle.{Size, within, rows, cols};
 ghost use Rattle.wcdma_plan.specs.Powers.{power};
 ghost use Rattle.wcdma_plan.specs.Numbers.{gcd};
 ghost use Rattle.wcdma_plan.specs.Orders.{whichOrder, orderOf, rowAt};
