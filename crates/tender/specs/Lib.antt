@@ -1,2 +1,3 @@
 pub mod Condition2
+pub mod Turbo
 pub mod Stream

@@ -3,24 +3,24 @@ use Prim.Native.Nat.{ℕ, _+_, _*_, _-_, _/_, _%_, _≤_, _<_}
 use mathlib.Core.Bool.{Bool, true, false}
 use mathlib.Core.List.{List}
 use mathlib.Core.Path.{_≡_, refl, ap, sym, _∙_, subst}
-use native.Mathlib.Nat.{le-mul-of-pos-right, add-mul, one-mul, add-mod, mod-lt, suc-mul, div-add-mod', mul-le-mul-right, mul-comm, sub-zero}
+use native.Mathlib.Nat.{le-mul-of-pos-right, add-mul, one-mul, add-mod, mod-lt, div-add-mod', sub-zero}
 use native.Mathlib.Decide.{ℕ-discrete}
 use native.Mathlib.Omega.{arith}
 use lib.Arith.{digits-div, digits-mod}
 use lib.Dec.{ltb, eqb}
-use lib.ListN.{length, getD, set, length-set}
+use lib.ListN.{getD, set, length-set}
 use lib.Seq.{getD-set-same, getD-set-other}
 use borrow.Author.Tests.{lt-ltb, le-ltb, ltb-true, ltb-false, eqb-true}
 use Rattle.laws.specs.Units.{mul-mod-in}
 use Rattle.wcdma_plan.specs.Rectangle.{rows, prime, cols, cells}
-use Rattle.wcdma_plan.specs.Powers.{power, root}
+use Rattle.wcdma_plan.specs.Powers.{root}
 use Rattle.wcdma_plan.specs.Numbers.{qOf}
 use Rattle.wcdma_plan.specs.Orders.{rowAt}
-use Rattle.wcdma_plan.specs.Shape.{rows-pos, rows-le, prime-big, prime-small, cells-le}
+use Rattle.wcdma_plan.specs.Shape.{rows-pos, rows-le, prime-big}
 use Rattle.wcdma_plan.specs.Post.{shortBy}
 use Rattle.wcdma.specs.Turbo.{entry, entryWith, address}
-use Rattle.wcdma.specs.Law.{address-lt, col-lt}
-use Rattle.wcdma.specs.Post.{nextCol, Exponents, Tables, entryAt, CellIn, Goes}
+use Rattle.wcdma.specs.Law.{col-lt}
+use Rattle.wcdma.specs.Post.{nextCol, Exponents, entryAt}
 
 module _ (k : ℕ) where
   -- cell n is at row i of column j

@@ -1,29 +1,28 @@
 -- What the walk hands to its parts, and what its answer says. Assumes nothing.
-use Prim.Native.Nat.{ℕ, _+_, _*_, _-_, _/_, _%_, _≤_, _<_}
+use Prim.Native.Nat.{ℕ, _-_, _/_, _%_, _≤_, _<_}
 use mathlib.Core.Bool.{Bool, true, false, not, cond}
 use mathlib.Core.List.{List, _++_}
-use mathlib.Core.Path.{_≡_, refl, ap, ap₂, sym, _∙_, subst}
-use native.Mathlib.Nat.{div-le-of-le-mul, mod-lt, div-add-mod', sub-zero}
+use mathlib.Core.Path.{_≡_, refl, ap, ap₂, sym, _∙_}
+use native.Mathlib.Nat.{div-le-of-le-mul, mod-lt, div-add-mod'}
 use native.Mathlib.Omega.{arith}
 use lib.Dec.{eqb}
 use lib.ListN.{getD, length, take, drop, List·getD-append, length-append}
-use lib.Seq.{take-all, take-at}
+use lib.Seq.{take-at}
 use Rattle.laws.specs.Outcome.{Outcome, done, refused, stopped, clear, judged, after, settle}
-use Rattle.laws.specs.Cut.{wrote-take}
-use Rattle.laws.specs.Once.{inside}
 use Rattle.wcdma_plan.specs.declared.Shape.{Shape}
 use Rattle.wcdma_plan.specs.Rectangle.{Size, rows, prime, cols, cells}
 use Rattle.wcdma_plan.specs.Powers.{power, root}
 use Rattle.wcdma_plan.specs.Numbers.{qOf, allFound, searchFails}
-use Rattle.wcdma_plan.specs.Shape.{rows-pos, rows-le, cols-high, prime-small}
+use Rattle.wcdma_plan.specs.Shape.{rows-pos, cols-high, prime-small}
 use Rattle.wcdma_plan.specs.Roots.{prime-root, power-pos}
 use Rattle.wcdma_plan.specs.Post.{ShapeOf, NumbersOf, shortBy}
 use Rattle.wcdma.specs.declared.TurboWalk.{TurboWalk}
 use Rattle.wcdma.specs.declared.TurboWalk.the-variants.{Went, GaveUp}
-use Rattle.wcdma.specs.Turbo.{address, addresses, turboL, turboM, walkList, walkCells}
+use Rattle.wcdma.specs.Turbo.{addresses, turboL}
 use Rattle.wcdma.specs.Answers.{searchLines, Counts, counts, walkCounts, walkSlice, sayWalk}
 use Rattle.wcdma.specs.Law.{as-many}
-use Rattle.wcdma.specs.Post.{SearchOf, ByIn, LayIn, Rows, Exponents, FillIn, WentOf}
+use Rattle.wcdma.specs.Walks.{walk-whole}
+use Rattle.wcdma.specs.Post.{SearchOf, ByIn, Rows, Exponents, FillIn, WentOf}
 
 pub short-le : (c p x : ℕ) → x ≡ shortBy c p → x ≤ 1
 short-le c p x e = rw e (go (eqb c (p - 1)))
@@ -98,13 +97,9 @@ module _ (k : ℕ) (a : Counts) {r : TurboWalk} (says : sayWalk r ≡ judged (λ
 
 -- a table that a walk from cell 0 filled is L
 module _ (k : ℕ) (size : Size k) where
-  whole : (room : ℕ) → k ≤ room → walkList k 0 room ≡ addresses k
-  unfolding walkList addresses
-  whole room h = rw sub-zero (wrote-take (address k) (inside k) 0 (cells k) room ∙ take-all room (addresses k) (omega (arith, as-many k (size .high))))
-
   module _ (old : List ℕ) {table : List ℕ} (h : k ≤ length old) (f : searchFails k ≡ false) (t : table ≡ after (searchLines k) (walkSlice k 0 old) old) where
     table-is : table ≡ addresses k ++ drop (length (addresses k)) old
-    table-is = t ∙ rw f (ap (λ (l : List ℕ). l ++ drop (length l) old) (whole (length old) h))
+    table-is = t ∙ rw f (ap (λ (l : List ℕ). l ++ drop (length l) old) (walk-whole k size (length old) h))
 
     pub table-at : (i : ℕ) → i < k → getD table i 0 ≡ turboL k i
     unfolding turboL

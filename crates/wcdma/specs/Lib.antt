@@ -4,3 +4,5 @@ pub mod Law
 pub mod Pads
 pub mod Answers
 pub mod Post
+pub mod Walks
+pub mod Wrong

@@ -1,11 +1,10 @@
 -- The padding: cells = K + padding, never more than 239 cells of it, and 239 at K 2281. Rests on Law; one computed test over the sizes.
 -- Assumes nothing.
-use Prim.Native.Nat.{ℕ, _+_, _-_, _≤_, _<_}
+use Prim.Native.Nat.{ℕ, _+_, _-_, _≤_}
 use mathlib.Core.Bool.{Bool, true}
 use mathlib.Core.Path.{_≡_, refl}
 use native.Mathlib.Omega.{arith}
 use lib.Dec.{leb}
-use lib.ListN.{length}
 use borrow.Author.Tests.{leb-true}
 use Rattle.laws.specs.Span.{span, at-number}
 use Rattle.laws.specs.Cut.{kept-or-padding}

@@ -123,8 +123,8 @@ pub fn place_of(k: usize, a: usize) -> TurboOne
     ensures { λ r. ⌜ sayOne r ≡ judged (λ n. n) (searchLines k) (turboM k a) ⌝ }
 {
     let mut table = [0u16; 5114];
-    let w = walk(k, 0, &mut table);
-    match w {
+    let walked = walk(k, 0, &mut table);
+    match walked {
         TurboWalk::Went {
             written: _,
             cells: _,

@@ -1,7 +1,6 @@
 -- The choice of R, p, C and the row order, case by case, as the functions make it. Assumes nothing.
 use Prim.Native.Nat.{ℕ, _+_, _*_, _-_, _/_, _≤_, _<_}
 use mathlib.Core.Bool.{Bool, true, false, cond, _||_, or-true}
-use mathlib.Core.List.{List, [], _∷_}
 use mathlib.Core.Path.{_≡_, refl, ap, sym, _∙_}
 use native.Mathlib.Nat.{div-lt-iff-lt-mul, mul-comm}
 use native.Mathlib.Omega.{arith}
@@ -10,7 +9,7 @@ use lib.Dec.{leb}
 use lib.ListN.{length, getD, drop}
 use lib.Seq.{drop-cons}
 use borrow.Author.Tests.{le-leb, lt-leb}
-use Rattle.wcdma_plan.specs.Rectangle.{Size, within, rows, primes, firstPrime, prime, colsOf, cols}
+use Rattle.wcdma_plan.specs.Rectangle.{within, rows, primes, firstPrime, prime, colsOf, cols}
 use Rattle.wcdma_plan.specs.Orders.{whichOrder}
 use Rattle.wcdma_plan.specs.Post.{ColsIn}
 

@@ -1,15 +1,15 @@
 -- The numbers q of the 52 primes: each of the twenty is found, is the next prime that it is to be, and has an inverse modulo p - 1. One
 -- computed test over the table. Rests on Numbers and Primes. Assumes nothing.
-use Prim.Native.Nat.{ℕ, zero, suc, _+_, _*_, _-_, _/_, _%_, _≤_, _<_}
-use mathlib.Core.Bool.{Bool, true, false, cond, not, _&&_}
-use mathlib.Core.List.{List, [], _∷_, List·Memᴰ}
+use Prim.Native.Nat.{ℕ, zero, suc, _+_, _*_, _-_, _/_, _%_, _<_}
+use mathlib.Core.Bool.{Bool, true, false, cond, _&&_}
+use mathlib.Core.List.{List·Memᴰ}
 use mathlib.Core.Path.{_≡_, refl, ap, sym, _∙_, subst}
 use native.Mathlib.Nat.{zero-add, zero-mul, zero-mod, add-zero, add-suc, suc-add}
 use native.Mathlib.Omega.{arith}
-use lib.Dec.{eqb, ltb}
+use lib.Dec.{eqb}
 use borrow.Author.Tests.{eqb-true, ne-eqb}
 use Rattle.laws.specs.Table.{both, every, at-each}
-use Rattle.wcdma_plan.specs.Rectangle.{rows, primes, prime}
+use Rattle.wcdma_plan.specs.Rectangle.{rows, primes}
 use Rattle.wcdma_plan.specs.Numbers.{gcdIn, gcd, noDivisor, isPrime, passes, nextIn, nextQ, qOf, allFound, searchFails}
 use Rattle.wcdma_plan.specs.Shape.{rows-pos, rows-le, prime-listed}
 use Rattle.wcdma_plan.specs.Primes.{Next, next-is}

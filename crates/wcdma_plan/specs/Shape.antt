@@ -3,15 +3,14 @@ use Prim.Native.Nat.{ℕ, _+_, _*_, _-_, _≤_, _<_}
 use mathlib.Core.Bool.{Bool, true, false, cond, _&&_, _||_, or-true, or-false}
 use mathlib.Core.Logic.{⊎-elim}
 use mathlib.Core.List.{List, [], _∷_, List·Memᴰ, List·Memᴰ·head, List·Memᴰ·tail, List·Memᴰ·cases-cons, List·Memᴰ·not-nil}
-use mathlib.Core.Path.{_≡_, refl, ap, sym, _∙_}
+use mathlib.Core.Path.{_≡_, refl, sym, _∙_}
 use native.Mathlib.Nat.{mul-le-mul}
 use native.Mathlib.Omega.{arith}
 use lib.Dec.{ltb, leb}
-use lib.ListN.{getD, length}
 use borrow.Author.Tests.{leb-true, leb-false, ltb-true, le-leb, lt-leb}
 use Rattle.laws.specs.Table.{both, every, at-each}
-use Rattle.laws.specs.Span.{getD-mem}
-use Rattle.wcdma_plan.specs.Rectangle.{Size, within, rows, primes, firstPrime, prime, colsOf, cols, cells}
+use Rattle.laws.specs.Run.{mem-at}
+use Rattle.wcdma_plan.specs.Rectangle.{within, rows, primes, firstPrime, prime, colsOf, cols, cells}
 
 -- what holds of either choice holds of the one that is made
 pub choice : {A : Type 0} (P : A → Type 0) (b : Bool) (x y : A) → (b ≡ true → P x) → (b ≡ false → P y) → P (cond b x y)
@@ -47,8 +46,8 @@ first-listed l k r (p ∷ ps) last all =
 pub prime-listed : (k : ℕ) → List·Memᴰ (prime k) primes
 unfolding prime primes
 prime-listed k =
-    choice (λ x. List·Memᴰ x primes) (within 481 530 k) 53 (firstPrime k (rows k) primes) (λ e. getD-mem primes 12 0 (omega arith))
-    (λ e. first-listed primes k (rows k) primes (getD-mem primes 51 0 (omega arith)) (λ x m. m))
+    choice (λ x. List·Memᴰ x primes) (within 481 530 k) 53 (firstPrime k (rows k) primes) (λ e. mem-at primes 0 12 (omega arith))
+    (λ e. first-listed primes k (rows k) primes (mem-at primes 0 51 (omega arith)) (λ x m. m))
 
 -- the table rises from 7 to 257
 abbrev rising : List ℕ → Bool

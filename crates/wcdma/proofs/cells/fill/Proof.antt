@@ -133,7 +133,7 @@ loop-again-3 c =
     (place-down _ (l .inv .0) (λ e. c .if3 .left (e ∙ sym (start b .pre .shape .rows-is))), f .exponents, cell-on (l .inv .0) (f .goes) (l .inv .2))
 
 sub-seen : tie.Need-sub-seen Inv-loop μ-loop
-sub-seen c = c .before .loop .inv .2 .since
+sub-seen c = omega (arith, c .before .loop .inv .2 .since)
 
 same-length : tie.Need-same-length Inv-loop μ-loop
 same-length c = c .before .loop .inv .2 .size

@@ -4,7 +4,7 @@ use borrow.Author.Count.{below-none}
 use borrow.Author.Needs.{needs}
 use lib.ListN.{getD, length, length-set}
 use mathlib.Core.Path.{_∙_, _≡_}
-use native.Mathlib.Nat.{mod-lt}
+use native.Mathlib.Nat.{le-of-lt, mod-lt}
 use native.Mathlib.Omega.{arith}
 use Rattle.laws.specs.Entries.{fill-more}
 use Rattle.wcdma_plan.specs.Numbers.{qOf}
@@ -62,7 +62,7 @@ element-copy-out-step : tie.Need-element-copy-out-step Inv-loop μ-loop
 element-copy-out-step c = small (c .before .before)
 
 rem-step : tie.Need-rem-step Inv-loop μ-loop
-rem-step c = some (c .before .before .before)
+rem-step c = omega (arith, some (c .before .before .before))
 
 mul-base : tie.Need-mul-base Inv-loop μ-loop
 mul-base c =
@@ -83,7 +83,7 @@ element-write-base : tie.Need-element-write-base Inv-loop μ-loop
 element-write-base c = small (c .before .before .before)
 
 sub-wide32 : tie.Need-sub-wide32 Inv-loop μ-loop
-sub-wide32 c = omega (arith, mod-lt (getD (c .before .before .before .before .before .before .before .args .q .now) (c .before .before .before .before .loop .x) 0) (some (c .before .before .before)))
+sub-wide32 c = let o = some (c .before .before .before) in le-of-lt (mod-lt _ (omega arith))
 
 wide32-requires : tie.Need-wide32-requires Inv-loop μ-loop
 wide32-requires c κs = search needs
@@ -95,7 +95,7 @@ element-write-fall : tie.Need-element-write-fall Inv-loop μ-loop
 element-write-fall c = small (c .before .before .before .before)
 
 first-exponent-requires : tie.Need-first-exponent-requires Inv-loop μ-loop
-first-exponent-requires c κs = (given (c .before .before .before .before) .column, mod-lt _ (some (c .before .before .before .before)), omega (arith, prime-small (c .before .before .before .before .before .before .before .before .args .shape .k), given (c .before .before .before .before) .shape .prime-is))
+first-exponent-requires c κs = let o = some (c .before .before .before .before) in (given (c .before .before .before .before) .column, mod-lt _ (omega arith), omega (arith, prime-small (c .before .before .before .before .before .before .before .before .args .shape .k), given (c .before .before .before .before) .shape .prime-is))
 
 wide32-requires-2 : tie.Need-wide32-requires-2 Inv-loop μ-loop
 wide32-requires-2 c κs = search needs
