@@ -3,14 +3,13 @@
 use Prim.Native.Nat.{ℕ, _<_}
 use mathlib.Core.List.{List, map}
 use mathlib.Core.Path.{_≡_, refl, sym, ap, ap₂, _∙_}
-use native.Mathlib.Omega.{arith}
 use lib.ListN.{length, getD, length-map}
-use Rattle.laws.specs.Outcome.{Outcome, done, Ruling, clear, stopped, first, settle, after, answer-clear, clear-front}
+use Rattle.laws.specs.Outcome.{done, Ruling, clear, stopped, first, settle, after, answer-clear, clear-front}
 use Rattle.laws.specs.Perm.{Perm, turned}
 use Rattle.laws.specs.Move.{gather, scatter, getD-gather, length-gather, back, scatter-is}
 use Rattle.laws.specs.Blind.{gather-blind, scatter-blind}
 use Rattle.sets.specs.declared.Set.{Set}
-use Rattle.sets.specs.Verdict.{refusal, verdictOf}
+use Rattle.sets.specs.Verdict.{refusal}
 use Rattle.walks.specs.Answer.{planLines}
 use Rattle.walks.specs.Lists.{source, target, each-once}
 use Rattle.walks.specs.Whole.{plan-accepted}

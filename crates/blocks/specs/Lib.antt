@@ -1,3 +1,5 @@
 pub mod Answer
 pub mod Passed
 pub mod Laws
+pub mod Refusals
+pub mod Wrong

@@ -1,16 +1,14 @@
 -- What stands behind each return of a block call: the walk's answer, the two lengths, the table. Over any element. Assumes nothing.
 use Prim.Native.Nat.{ℕ, _≤_, _<_}
-use mathlib.Core.Bool.{true, false, not}
-use mathlib.Core.List.{List, [], _∷_, _++_}
+use mathlib.Core.List.{List}
 use mathlib.Core.Path.{_≡_, refl, sym, ap, _∙_}
 use native.Mathlib.Omega.{arith}
 use lib.Dec.{eqb}
 use lib.ListN.{length}
 use borrow.Author.Tests.{eq-eqb, ne-eqb, eqb-true, eqb-false, not-false}
-use Rattle.laws.specs.Outcome.{Outcome, done, refused, Line, line, Ruling, clear, stopped, first, settle, judged, after, clear-then, clear-back, first-clear, stopped-front, answer-keeps, answer-clear}
+use Rattle.laws.specs.Outcome.{done, refused, Ruling, clear, stopped, first, settle, judged, after, clear-then, clear-back, first-clear, stopped-front, answer-keeps, answer-clear}
 use Rattle.laws.specs.Move.{gather, scatter, gather-same, scatter-same}
 use Rattle.laws.specs.Loop.{by, Within}
-use Rattle.laws.specs.Perm.{Perm}
 use Rattle.sets.specs.declared.Set.{Set}
 use Rattle.sets.specs.declared.Refusal.{Refusal}
 use Rattle.sets.specs.Verdict.{refusal, verdictOf}

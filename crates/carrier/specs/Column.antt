@@ -8,7 +8,7 @@ use Rattle.laws.specs.Digits.{high-below}
 use Rattle.laws.specs.Sized.{Sized, groups-pos, row-length, row-whole, d-le}
 use Rattle.carrier.specs.declared.column.ColumnSpot.{ColumnSpot}
 use Rattle.carrier.specs.Formula.{carrierM}
-use Rattle.carrier.specs.Laws.{M-digits}
+use Rattle.carrier.specs.Steps.{M-digits}
 
 -- the numbers at a row of column col: low is the column's place in its group, base the address without the turn, turn the turned place
 pub record ColumnAt (c n s col row : ℕ) (at : ColumnSpot) : Type 0 where

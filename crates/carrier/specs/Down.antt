@@ -1,12 +1,12 @@
 -- The loops of the walk for M: down a part of a column, and column by column, N/d lanes of d cells. Assumes nothing.
-use mathlib.Core.Path.{_≡_, sym, ap, _∙_}
+use mathlib.Core.Path.{_≡_, sym, ap, _∙_, subst}
 use mathlib.Core.List.{List}
 use Prim.Native.Nat.{ℕ, _+_, _-_, _*_, _/_, _%_, _≤_, _<_}
 use native.Mathlib.Nat.{mod-lt, mod-le, mul-le-mul-left, div-add-mod, div-le-self}
 use native.Mathlib.Omega.{arith}
 use lib.ListN.{set}
 use Rattle.laws.specs.Digits.{high-below}
-use Rattle.laws.specs.Sized.{Sized, row-pos, row-whole, d-le}
+use Rattle.laws.specs.Sized.{Sized, row-whole}
 use Rattle.laws.specs.Lanes.{Going, going-first, going-next, Lanewise, Part}
 use Rattle.carrier.specs.declared.column.ColumnSpot.{ColumnSpot}
 use Rattle.carrier.specs.Formula.{carrierM}
@@ -15,8 +15,9 @@ use Rattle.carrier.specs.Block.{Block}
 use Rattle.carrier.specs.Column.{ColumnAt, ColumnIn, ColumnStep, column-cell, column-address}
 
 -- a part of a column, and where the walk stands at its beginning
-pub record DownIn (d n s col row : ℕ) (at : ColumnSpot) (from stop : ℕ) (out : List ℕ) : Type 0 where
+pub record DownIn (d n s c col row : ℕ) (at : ColumnSpot) (from stop : ℕ) (out : List ℕ) : Type 0 where
   pub size : Sized d n s
+  pub c-is : c ≡ n / d
   pub small : n < 65536
   pub spot : ColumnAt (n / d) n s col row at
   pub part : Part (n / d) d col row from stop out
@@ -29,7 +30,7 @@ Down d n s col = Going (carrierM d n s) (d * col) (ColumnAt (n / d) n s col)
 abbrev pub Columns : ℕ → ℕ → ℕ → ℕ → ℕ → List ℕ → List ℕ → ℕ → ℕ → ColumnSpot → ℕ → Type 0
 Columns d n s = Lanewise (carrierM d n s) d (ColumnAt (n / d) n s)
 
-module _ {d n s row col from stop : ℕ} {start : ColumnSpot} {out₀ : List ℕ} (z : DownIn d n s col row start from stop out₀) where
+module _ {d n s c row col from stop : ℕ} {start : ColumnSpot} {out₀ : List ℕ} (z : DownIn d n s c col row start from stop out₀) where
   pub down-first : Down d n s col row from stop out₀ out₀ start from
   down-first = going-first (carrierM d n s) (d * col) (ColumnAt (n / d) n s col) (let h = z .part .more in omega arith) (z .spot)
 
@@ -43,12 +44,16 @@ module _ {d n s row col from stop : ℕ} {start : ColumnSpot} {out₀ : List ℕ
     pub address-small : at .base + at .turn < 65536
     address-small = omega (arith, address-is, carrier-once (z .size) .m-below _ (column-cell (z .size) (z .part .lane-in) row-in), z .small)
 
-    pub down-step : ColumnStep (n / d) s at
-    down-step = record { s-pos = z .size .s-pos; c-small = omega (arith, div-le-self n d, z .small); base-small = omega (arith, address-small) }
+    pub down-step : ColumnStep c s at
+    down-step = record { s-pos = z .size .s-pos; c-small = omega (arith, z .c-is, div-le-self n d, z .small); base-small = omega (arith, address-small) }
 
-    pub down-next : {v : ℕ} {next : ColumnSpot} → v ≡ at .base + at .turn → ColumnAt (n / d) n s col (row + (i - from) + 1) next
+    pub down-next : {v : ℕ} {next : ColumnSpot} → v ≡ at .base + at .turn
+        → (ColumnAt c n s col (row + (i - from)) at → ColumnAt c n s col (row + (i - from) + 1) next)
         → Down d n s col row from stop out₀ (set out i v) next (i + 1)
-    down-next e p = going-next (carrierM d n s) (d * col) (ColumnAt (n / d) n s col) g h (z .part .room) (e ∙ address-is) p
+    down-next {v} {next} e p =
+        going-next (carrierM d n s) (d * col) (ColumnAt (n / d) n s col) g h (z .part .room) (e ∙ address-is)
+        (subst (λ (c : ℕ). ColumnAt c n s col (row + (i - from) + 1) next) (z .c-is)
+        (p (subst (λ (c : ℕ). ColumnAt c n s col (row + (i - from)) at) (sym (z .c-is)) (g .place))))
 
 -- the set-up at a cell: its column and its row
 module _ {d n s cell : ℕ} (b : Block d n s cell) where

@@ -1,5 +1,5 @@
 pub mod Formula
-pub mod Laws
+pub mod Steps
 pub mod Once
 pub mod Block
 pub mod Row

@@ -1,14 +1,14 @@
 -- The walk for L, a row of the output at a time. Cell t is column t mod c of row t/c, c being N/d; a column's group of s is turned by its
 -- row. The address is base + lift, both stepped by additions. Assumes nothing.
-use mathlib.Core.Path.{_≡_, refl, sym, ap, _∙_, subst}
+use mathlib.Core.Path.{_≡_, refl, sym, ap, _∙_}
 use Prim.Native.Nat.{ℕ, _+_, _-_, _*_, _/_, _%_, _≤_, _<_}
 use native.Mathlib.Nat.{mod-add-mod, mod-lt, mod-le, mod-self, mod-eq-of-lt, mul-div-cancel-left, mul-le-mul-left, mul-zero, mul-add-mod-self-left, div-add-mod}
 use native.Mathlib.Omega.{arith}
 use Rattle.laws.specs.Digits.{high-below}
-use Rattle.laws.specs.Sized.{Sized, groups-pos, row-length, row-pos, row-whole}
+use Rattle.laws.specs.Sized.{Sized, groups-pos, row-length, row-whole}
 use Rattle.carrier.specs.declared.row.RowSpot.{RowSpot}
 use Rattle.carrier.specs.Formula.{carrierL}
-use Rattle.carrier.specs.Laws.{L-digits}
+use Rattle.carrier.specs.Steps.{L-digits}
 
 -- the numbers at column col of a row: low is the column's place in its group, base the address without the turn, lift the turn's part
 pub record RowAt (d s row col : ℕ) (at : RowSpot) : Type 0 where

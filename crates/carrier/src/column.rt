@@ -25,7 +25,8 @@ fn up_by_one(low: usize, s: usize) -> usize
     if low + 1 == s { 0 } else { low + 1 }
 }
 
-// Where the walk for M stands in a column. Its address is base + turn.
+// Where the walk for M stands in a column. Its address is base + turn: base without the turn, low the column's place in its group of s,
+// turn the turned place.
 struct ColumnSpot {
     base: usize,
     low: usize,
@@ -79,11 +80,13 @@ impl ColumnSpot {
     }
 }
 
-// Writes M of a column's rows from row on, at out[from] to out[stop - 1], and gives back where it then stands.
+// Writes M of a column's rows from row on, at out[from] to out[stop - 1], and gives back where it then stands. d, n, col and row are there
+// for what is promised; c is N/d.
 fn down(
     d: usize,
     n: usize,
     s: usize,
+    c: usize,
     col: usize,
     row: usize,
     start: ColumnSpot,
@@ -91,10 +94,9 @@ fn down(
     from: usize,
     stop: usize,
 ) -> ColumnSpot
-    requires { ⌜ DownIn d n s col row start from stop (now out) ⌝ }
+    requires { ⌜ DownIn d n s c col row start from stop (now out) ⌝ }
     ensures { λ r. ⌜ Down d n s col row from stop (now (out .entry)) (now (out .exit)) r stop ⌝ }
 {
-    let c = n / d;
     let mut at = start;
     let mut i = from;
     while i < stop {
@@ -130,7 +132,7 @@ pub fn walk(d: usize, n: usize, s: usize, cell: usize, out: &mut [u16]) -> usize
     let mut i = 0;
     while i < count {
         let stop = least(count, i + (d - row));
-        let end = down(d, n, s, col, row, at, out, i, stop);
+        let end = down(d, n, s, c, col, row, at, out, i, stop);
         at = end.next_column(s, col);
         col += 1;
         row = 0;

@@ -17,7 +17,8 @@ fn lift_up(lift: usize, d: usize, top: usize) -> usize
     if lift == top { 0 } else { lift + d }
 }
 
-// Where the walk for L stands in a row. Its address is base + lift.
+// Where the walk for L stands in a row. Its address is base + lift: base without the turn, low the column's place in its group of s, lift
+// the turned place times d.
 struct RowSpot {
     base: usize,
     low: usize,
@@ -78,7 +79,8 @@ impl RowSpot {
     }
 }
 
-// Writes L of a row's columns from col on, at out[from] to out[stop - 1], and gives back where it then stands.
+// Writes L of a row's columns from col on, at out[from] to out[stop - 1], and gives back where it then stands. n, row and col are there for
+// what is promised.
 fn along(
     d: usize,
     n: usize,

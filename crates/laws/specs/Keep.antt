@@ -4,7 +4,7 @@ use Prim.Native.Nat.{ℕ, zero, suc}
 use mathlib.Core.Bool.{Bool, cond}
 use mathlib.Core.List.{List, [], _∷_}
 
--- What a let binds is computed only where it is read.
+-- Both branches of each test are bound by a let, so that a computed case works out one of them only.
 module _ {A : Type 0} (f : ℕ → A) (ok : A → Bool) where
   -- the entries that pass the test among the n cells from c on, in order
   unfoldable pub keep : ℕ → ℕ → List A

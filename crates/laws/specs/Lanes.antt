@@ -1,6 +1,6 @@
 -- Writing a rule into a slice lane by lane: the cells lie in lanes of w, and inside a lane a stepped state gives the next entry.
 -- Over any rule and any state. Assumes nothing.
-use mathlib.Core.Path.{_≡_, refl, ap, sym, _∙_, subst}
+use mathlib.Core.Path.{_≡_, refl, ap, _∙_, subst}
 use mathlib.Core.List.{List, _++_}
 use Prim.Native.Nat.{ℕ, min, _+_, _-_, _*_, _/_, _≤_, _<_}
 use native.Mathlib.Nat.{le-antisymm}
@@ -10,7 +10,8 @@ use Rattle.laws.specs.Digits.{high, high-below}
 use Rattle.laws.specs.Run.{run}
 use Rattle.laws.specs.Fill.{Filled, filled-none, filled-more}
 
--- a slice filled up to from is filled up to stop, cell x being the next, whatever the slice was
+-- what writing a part does, whatever was written before it: a slice whose first entries, up to from, are the rule's, cell x being the next,
+-- becomes one whose entries up to stop are
 abbrev pub Goes : (ℕ → ℕ) → ℕ → ℕ → ℕ → List ℕ → List ℕ → Type 0
 Goes f x from stop old new = (a : ℕ) (o : List ℕ) → a + from ≡ x → Filled f a o old from → Filled f a o new stop
 

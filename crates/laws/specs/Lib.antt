@@ -2,7 +2,7 @@ pub mod Outcome
 pub mod Digits
 pub mod Sized
 pub mod Run
-pub mod Table
+pub mod Members
 pub mod Fill
 pub mod Lanes
 pub mod Perm

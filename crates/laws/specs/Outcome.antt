@@ -113,7 +113,7 @@ clear-back ls ms e = sym (clear-then ls ms (clear-front ls ms e)) ∙ e
 pub stopped-front : (ls ms : List Line) (k : ℕ) → first ls ≡ stopped k → first (ls ++ ms) ≡ stopped k
 stopped-front ls ms k e = first-join ls ms ∙ rw e
 
--- the two theorems of the pattern
+-- what an answer says of the lines, and what the lines say of an answer
 
 module _ {R A : Type 0} (give : ℕ → R) (a : A) where
   -- a refusal that is said is that of the first line that applies ..
@@ -143,7 +143,7 @@ module _ {R A : Type 0} (give : ℕ → R) (a : A) where
   pub clear-done : (ls : List Line) → Clear ls → judged give ls a ≡ done a
   clear-done ls c = rw (clear-first ls c)
 
--- where a line applies every lent buffer is what it was
+-- where a line applies every lent buffer is what it was, and else it is the new one
 pub buffer-kept : {B : Type 0} (ls : List Line) (k : ℕ) (new old : B) → First ls k → after ls new old ≡ old
 buffer-kept ls k new old f = rw (stopped-first ls k f)
 

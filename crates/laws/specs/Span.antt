@@ -1,9 +1,9 @@
--- A test at each of the n numbers from a on, computed once, and what it says of each number. Rests on Run and Table. Assumes nothing.
+-- A test at each of the n numbers from a on, computed once, and what it says of each number. Rests on Run and Members. Assumes nothing.
 use mathlib.Core.Path.{_≡_}
 use mathlib.Core.Bool.{Bool, true}
 use Prim.Native.Nat.{ℕ, _+_, _≤_, _<_}
 use Rattle.laws.specs.Run.{run, run-mem}
-use Rattle.laws.specs.Table.{every, at-each}
+use Rattle.laws.specs.Members.{every, at-each}
 
 -- the test passes at a, a + 1, .., n of them
 abbrev pub span : (ℕ → Bool) → ℕ → ℕ → Bool

@@ -1,19 +1,19 @@
 -- Exactly the listed sets are accepted: a set stands in the table that specs/Listed.antt counts out if and only if no line of the test
--- applies to it. One way is computed, set by set; the other goes by profile and bits. Assumes nothing.
+-- applies to it. One way is computed over the carrier sets, set by set; the other goes by profile and bits. Assumes nothing.
 use mathlib.Core.Path.{_≡_, refl, sym, ap, _∙_}
-use mathlib.Core.Bool.{Bool, true, false, not, cond, _&&_}
+use mathlib.Core.Bool.{Bool, true, false, cond, _&&_}
 use mathlib.Core.Logic.{⊎-elim}
-use mathlib.Core.List.{List, [], _∷_, _++_, List·Memᴰ, List·Memᴰ·head, List·Memᴰ·tail, List·Memᴰ·append-cases, Memᴰ·append-left, Memᴰ·append-right, Memᴰ·cast, Memᴰ·map, Memᴰ·of-map}
-use Prim.Native.Nat.{ℕ, _+_, _-_, _*_, _≤_, _<_}
+use mathlib.Core.List.{[], _∷_, List·Memᴰ, List·Memᴰ·head, List·Memᴰ·append-cases, Memᴰ·append-left, Memᴰ·append-right, Memᴰ·cast, Memᴰ·map, Memᴰ·of-map}
+use Prim.Native.Nat.{ℕ, _+_, _-_, _≤_, _<_}
 use native.Mathlib.Omega.{arith}
 use lib.Dec.{leb, ltb, eqb}
 use lib.ListN.{length, getD}
 use borrow.Author.Tests.{le-leb, leb-true, ltb-true, not-false, eqb-true}
-use Rattle.laws.specs.Outcome.{Outcome, done, refused, Clear, done-clear, clear-done}
-use Rattle.laws.specs.Run.{run, run-mem, mem-run, mem-at}
-use Rattle.laws.specs.Table.{both, every, at-each, All, by-member, oneOf, one-of, multiple, multiple-of}
+use Rattle.laws.specs.Outcome.{done, done-clear}
+use Rattle.laws.specs.Run.{run-mem, mem-run, mem-at}
+use Rattle.laws.specs.Members.{both, every, at-each, by-member, oneOf, one-of, multiple-of}
 use Rattle.sets.specs.declared.Set.{Set}
-use Rattle.sets.specs.Table.{groupOf, profileListed, bitsListed, sizeListed}
+use Rattle.sets.specs.Profiles.{groupOf, profileListed, bitsListed, sizeListed}
 use Rattle.sets.specs.Verdict.{setLines, refusal, verdictOf}
 use Rattle.sets.specs.Listed.{Row, row, set, setsOf, ofdm, ofdma, wlan, bench, carriers, turboSizes, turbo, listedSets, in-rows}
 
@@ -21,7 +21,7 @@ use Rattle.sets.specs.Listed.{Row, row, set, setsOf, ofdm, ofdma, wlan, 
 abbrev accepts : Set → Bool
 accepts s = profileListed s && (bitsListed s && sizeListed s)
 
-accepted : (s : Set) → accepts s ≡ true → verdictOf s ≡ done tt
+pub accepted : (s : Set) → accepts s ≡ true → verdictOf s ≡ done tt
 unfolding verdictOf setLines
 accepted s e =
     let p = both (profileListed s) (bitsListed s && sizeListed s) e in

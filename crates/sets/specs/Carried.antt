@@ -1,20 +1,20 @@
--- What an accepted set is. Of a carrier profile: a block that the carrier laws hold for, N a positive multiple of d and N/d one of s,
+-- What an accepted set is. Of a carrier profile: a block that the carrier laws hold for, N a positive multiple of d and N/d a multiple of s,
 -- computed over the 307 carrier sets of the table. Of profile 5: a size from 40 to 5,114. Assumes nothing.
 use mathlib.Core.Path.{_≡_, refl, sym, ap, _∙_}
 use mathlib.Core.Bool.{Bool, true, false, not, _&&_, false≢true}
 use mathlib.Core.Logic.{_≢_, ⊎-elim}
-use mathlib.Core.List.{List, List·Memᴰ, List·Memᴰ·append-cases, Memᴰ·of-map}
-use Prim.Native.Nat.{ℕ, _+_, _*_, _/_, _%_, _≤_, _<_}
+use mathlib.Core.List.{List·Memᴰ·append-cases, Memᴰ·of-map}
+use Prim.Native.Nat.{_+_, _*_, _/_, _%_, _≤_}
 use native.Mathlib.Nat.{div-add-mod}
 use native.Mathlib.Omega.{arith}
 use lib.Dec.{leb, ltb, eqb}
 use borrow.Author.Tests.{leb-true, ltb-true, eqb-true, eq-eqb}
 use Rattle.laws.specs.Outcome.{done}
 use Rattle.laws.specs.Run.{mem-run}
-use Rattle.laws.specs.Table.{both, every, at-each}
+use Rattle.laws.specs.Members.{both, every, at-each}
 use Rattle.laws.specs.Sized.{Sized}
 use Rattle.sets.specs.declared.Set.{Set}
-use Rattle.sets.specs.Table.{rowsOf, groupOf}
+use Rattle.sets.specs.Profiles.{rowsOf, groupOf}
 use Rattle.sets.specs.Verdict.{verdictOf}
 use Rattle.sets.specs.Listed.{set, setsOf, ofdm, ofdma, wlan, bench, carriers, turboSizes, turbo, listedSets}
 use Rattle.sets.specs.Admits.{accepted-listed}

@@ -9,7 +9,7 @@ use Rattle.sets.specs.declared.Set.{Set}
 use Rattle.sets.specs.declared.Refusal.{Refusal}
 use Rattle.sets.specs.declared.Verdict.{Verdict}
 use Rattle.sets.specs.declared.Verdict.the-variants.{Accepted, Refused}
-use Rattle.sets.specs.Table.{profileListed, bitsListed, sizeListed}
+use Rattle.sets.specs.Profiles.{profileListed, bitsListed, sizeListed}
 
 -- 1: the profile isn't 1 to 5. 2: the bits aren't listed for the profile. 3: N isn't listed for that profile and those bits
 unfoldable pub setLines : Set → List Line
@@ -19,7 +19,7 @@ setLines s =
     ∷ line 3 (not (sizeListed s))
     ∷ []
 
--- what a refusal of a set carries: its number alone
+-- what a refusal of a set carries: its number alone. It is given the set, so that more can be said of it in one place
 unfoldable pub refusal : Set → ℕ → Refusal
 refusal s k = record { number = k }
 

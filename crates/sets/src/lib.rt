@@ -1,8 +1,8 @@
 // A parameter set, the test of one, and what a refusal carries.
 ghost use mathlib.Core.Path.{_≡_};
 ghost use Prim.Native.Nat.{_<_};
-ghost use Rattle.laws.specs.Table.{multiple};
-ghost use Rattle.sets.specs.Table.{rowsOf, groupOf, profileListed, bitsListed, sizeListed};
+ghost use Rattle.laws.specs.Members.{multiple};
+ghost use Rattle.sets.specs.Profiles.{rowsOf, groupOf, profileListed, bitsListed, sizeListed};
 ghost use Rattle.sets.specs.Verdict.{refusal, sayVerdict, verdictOf};
 
 // A profile of document 01, bits per carrier, and the block's size N. Any numbers may be given.
@@ -30,7 +30,7 @@ pub fn rows_of(set: Set) -> u32
     if set.profile == 1 { 12 } else { 16 }
 }
 
-// s, the group that the bits per carrier give.
+// s, the group that the bits per carrier give. (Its range is promised too, so that callers need not look into the table.)
 pub fn group_of(set: Set) -> u32
     ensures { λ r. ⌜ r ≡ groupOf set ⌝ }
     ensures { λ r. ⌜ (0 < r) × (r < 4) ⌝ }
@@ -105,7 +105,7 @@ fn size_listed(set: Set) -> bool
     (40 <= n) & (n <= 5114)
 }
 
-// The test of a parameter set: 1, 2, 3, in that order, and nothing more.
+// The test of a parameter set: 1, 2, 3, in that order, and nothing more. (`verdicts-apart` in specs/Verdict.antt: what is said leaves one answer.)
 pub fn test(set: Set) -> Verdict
     ensures { λ r. ⌜ sayVerdict r ≡ verdictOf set ⌝ }
 {

@@ -12,7 +12,7 @@ use lib.Arith.{digits-div, digits-mod, mod-mul}
 use lib.ListN.{length}
 use borrow.Author.Tests.{eqb-true}
 use Rattle.laws.specs.Run.{run, run-mem}
-use Rattle.laws.specs.Table.{at-each}
+use Rattle.laws.specs.Members.{at-each}
 use Rattle.delay.specs.declared.Way.{Way}
 use Rattle.delay.specs.Machine.{place, ringOf, offset, slotIn, slotAt, runOutput, runStore}
 use Rattle.delay.specs.Slots.{ring-lt}

@@ -20,28 +20,28 @@ module _ {A : Type 0} where
   feedSentences c =
       sentence 7 (length (c .store) ≢ 1122) ∷ sentence 9 (5654880 ≤ c .stream .phase) ∷ sentence 6 (length (c .output) ≢ length (c .input)) ∷ []
 
-  start-told : (store : List A) → Told (startLines store) (startSentences store)
+  start-told : (store : List A) → Told (Unit {0}) (startLines store) (startSentences store)
   start-told store = told-differ 7 (length store) 1122 none
 
-  feed-told : (c : Call A) → Told (linesOf c) (feedSentences c)
+  feed-told : (c : Call A) → Told (Unit {0}) (linesOf c) (feedSentences c)
   feed-told c =
       told-differ 7 (length (c .store)) 1122 (told-reach 9 5654880 (c .stream .phase) (told-differ 6 (length (c .output)) (length (c .input)) none))
 
   -- a number is said exactly when its sentence holds and none before it does
   pub refusal-order-start : (store : List A) (k : ℕ) → (judged (λ n. n) (startLines store) startRecord ≡ refused k) ↔ FirstTrue (startSentences store) k
-  refusal-order-start store k = said-exactly (start-told store) startRecord k
+  refusal-order-start store k = said-exactly (start-told store) tt (λ n. n) (λ i j e. e) startRecord k
 
   pub refusal-order-feed : (c : Call A) (k : ℕ) → (says c ≡ refused k) ↔ FirstTrue (feedSentences c) k
-  refusal-order-feed c k = said-exactly (feed-told c) (fedRecord (c .stream) (c .input)) k
+  refusal-order-feed c k = said-exactly (feed-told c) tt (λ n. n) (λ i j e. e) (fedRecord (c .stream) (c .input)) k
 
   -- where a sentence holds the call says the number alone, and changes no byte
   pub refused-alone-start : (store : List A) (f : A) (k : ℕ) → FirstTrue (startSentences store) k
       → (judged (λ n. n) (startLines store) startRecord ≡ refused k) × (after (startLines store) (startStore f) store ≡ store)
-  refused-alone-start store f k h = (refusal-order-start store k .1 h, kept-alone (start-told store) (startStore f) store k h)
+  refused-alone-start store f k h = (refusal-order-start store k .1 h, kept-alone (start-told store) tt (startStore f) store k h)
 
   pub refused-alone-feed : (c : Call A) (k : ℕ) → FirstTrue (feedSentences c) k → (says c ≡ refused k) × (storeAfter c ≡ c .store) × (outputAfter c ≡ c .output)
   refused-alone-feed c k h = (
     refusal-order-feed c k .1 h,
-    kept-alone (feed-told c) (fedStore (c .way) (c .stream) (c .store) (c .input)) (c .store) k h,
-    kept-alone (feed-told c) (fedOutput (c .way) (c .stream) (c .store) (c .input)) (c .output) k h,
+    kept-alone (feed-told c) tt (fedStore (c .way) (c .stream) (c .store) (c .input)) (c .store) k h,
+    kept-alone (feed-told c) tt (fedOutput (c .way) (c .stream) (c .store) (c .input)) (c .output) k h,
   )

@@ -6,7 +6,7 @@ use mathlib.Core.List.{List·Memᴰ}
 use Rattle.laws.specs.Outcome.{done}
 use Rattle.laws.specs.Perm.{Perm}
 use Rattle.sets.specs.declared.Set.{Set}
-use Rattle.sets.specs.Table.{rowsOf, groupOf}
+use Rattle.sets.specs.Profiles.{rowsOf, groupOf}
 use Rattle.sets.specs.Verdict.{verdictOf}
 use Rattle.sets.specs.Listed.{listedSets, Counts, counts}
 use Rattle.sets.specs.Admits.{listed-accepted, accepted-listed}

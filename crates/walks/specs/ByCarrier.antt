@@ -1,12 +1,12 @@
 -- From the leaf walks of the carrier profiles to the answers: what they give is what the definitions say. Assumes nothing.
 use Prim.Native.Nat.{ℕ, _+_, _-_, _≤_, _<_}
-use mathlib.Core.Bool.{true, false}
+use mathlib.Core.Bool.{false}
 use mathlib.Core.List.{List, [], _∷_}
-use mathlib.Core.Path.{_≡_, sym, ap, _∙_}
+use mathlib.Core.Path.{_≡_, ap, _∙_}
 use mathlib.Core.Logic.{_≢_}
 use native.Mathlib.Omega.{arith}
 use lib.ListN.{length}
-use borrow.Author.Tests.{lt-ltb, le-ltb, lt-leb, le-leb, eqb-false}
+use borrow.Author.Tests.{lt-ltb, le-ltb, eqb-false}
 use Rattle.laws.specs.Outcome.{done, refused, Line, clear, stopped, first, judged, after}
 use Rattle.laws.specs.Keep.{wrote}
 use Rattle.laws.specs.Once.{inside}
@@ -16,7 +16,7 @@ use Rattle.laws.specs.Bare.{ran-written, ran-cells, ran-slice}
 use Rattle.sets.specs.declared.Set.{Set}
 use Rattle.sets.specs.declared.Refusal.{Refusal}
 use Rattle.sets.specs.Verdict.{refusal}
-use Rattle.sets.specs.Table.{rowsOf, groupOf}
+use Rattle.sets.specs.Profiles.{rowsOf, groupOf}
 use Rattle.sets.specs.Carried.{carried}
 use Rattle.carrier.specs.Formula.{carrierL, carrierM}
 use Rattle.carrier.specs.Block.{Block}

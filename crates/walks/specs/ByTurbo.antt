@@ -1,13 +1,13 @@
 -- From the leaf walk of profile 5 to the answers: 8 where its search gives up, then 9, and else what the definitions say. Assumes nothing.
 use Prim.Native.Nat.{ℕ, min, _+_, _-_, _≤_, _<_}
 use mathlib.Core.Bool.{Bool, true, false}
-use mathlib.Core.List.{List, [], _∷_, _++_}
-use mathlib.Core.Path.{_≡_, refl, sym, ap, _∙_}
+use mathlib.Core.List.{List, [], _∷_}
+use mathlib.Core.Path.{_≡_, refl, ap, _∙_}
 use native.Mathlib.Omega.{arith}
-use lib.ListN.{length, drop}
+use lib.ListN.{length}
 use borrow.Author.Tests.{lt-ltb, le-ltb, eqb-true}
-use Rattle.laws.specs.Outcome.{Outcome, done, refused, Line, line, clear, stopped, first, judged, after}
-use Rattle.laws.specs.Keep.{wrote, steps}
+use Rattle.laws.specs.Outcome.{done, refused, line, clear, stopped, first, judged, after}
+use Rattle.laws.specs.Keep.{wrote}
 use Rattle.laws.specs.Cut.{steps-le, steps-are}
 use Rattle.laws.specs.Once.{inside}
 use Rattle.sets.specs.declared.Set.{Set}
@@ -21,7 +21,7 @@ use Rattle.wcdma.specs.Turbo as turbo
 use Rattle.wcdma.specs.Answers.{searchLines, Counts, counts, walkCounts}
 use Rattle.wcdma.specs.Answers as turbo-answers
 use Rattle.walks.specs.declared.Walk.{Walk}
-use Rattle.walks.specs.Course.{isTurbo, courseL}
+use Rattle.walks.specs.Course.{courseL}
 use Rattle.walks.specs.Answer.{cellLine, walkLines, walkList, walkCells, walkNext, walkSlice, Values, values, walkValues}
 use Rattle.walks.specs.Passed.{Taken, plan-front, gives-up-as, course-turbo}
 

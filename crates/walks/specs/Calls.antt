@@ -1,18 +1,16 @@
 -- Condition 3 for the walks, both ways: any list of calls, those that are accepted handing the record on, refused ones with any record
 -- between, joined is one walk: the same list, the same end, the same cells. A call goes through the definitions that the contracts
 -- cite. Assumes nothing.
-use Prim.Native.Nat.{ℕ, zero, _+_, _-_, _≤_}
-use mathlib.Core.Bool.{Bool, true, false, cond}
+use Prim.Native.Nat.{ℕ, _+_, _-_, _≤_}
 use mathlib.Core.List.{List, [], _∷_, _++_}
-use mathlib.Core.Path.{_≡_, refl, sym, ap, ap₂, _∙_}
+use mathlib.Core.Path.{_≡_, sym, ap, ap₂, _∙_}
 use native.Mathlib.Nat.{add-zero, zero-add}
 use native.Mathlib.Omega.{arith}
-use lib.Dec.{ltb}
 use lib.ListN.{length, take, drop}
 use lib.Seq.{take-append-seam}
 use borrow.Author.Tests.{ltb-false, le-ltb}
-use Rattle.laws.specs.Outcome.{Outcome, done, refused, Line, line, Clear, First, first, clear, judged, after, clear-done, first-refused, buffer-new, stopped-first, clear-first, first-clear, first-join, clear-front, clear-back, clear-then}
-use Rattle.laws.specs.Keep.{wrote, steps}
+use Rattle.laws.specs.Outcome.{Outcome, done, refused, Line, line, Clear, First, first, clear, judged, after, stopped-first, clear-first, first-clear, clear-front, clear-back, clear-then}
+use Rattle.laws.specs.Keep.{steps}
 use Rattle.laws.specs.Cut.{steps-le}
 use Rattle.laws.specs.Written.{wrote-no-room, steps-no-room}
 use Rattle.laws.specs.Once.{inside}
@@ -21,7 +19,7 @@ use Rattle.sets.specs.declared.Refusal.{Refusal}
 use Rattle.sets.specs.Verdict.{setLines, refusal}
 use Rattle.walks.specs.declared.Walk.{Walk}
 use Rattle.walks.specs.Course.{Course, courseL, courseM, isTurbo}
-use Rattle.walks.specs.Answer.{planLines, cellLine, walkLines, backLines, walkList, walkCells, walkNext, walkSlice, Values, values, walkValues}
+use Rattle.walks.specs.Answer.{planLines, cellLine, walkLines, backLines, walkList, walkCells, walkNext, walkSlice, Values, walkValues}
 use Rattle.walks.specs.Runs.{list-cut, cells-cut, next-cut}
 
 -- a call: the record it is given, and the slice that is lent to it

@@ -4,7 +4,7 @@ use mathlib.Core.Bool.{Bool, cond, _&&_}
 use Prim.Native.Nat.{ℕ}
 use lib.Dec.{eqb}
 use Rattle.sets.specs.declared.Set.{Set}
-use Rattle.sets.specs.Table.{rowsOf, groupOf}
+use Rattle.sets.specs.Profiles.{rowsOf, groupOf}
 use Rattle.carrier.specs.Formula.{carrierL, carrierM}
 use Rattle.wcdma_plan.specs.Rectangle.{cells}
 use Rattle.wcdma_plan.specs.Numbers.{searchFails}

@@ -8,3 +8,5 @@ pub mod One
 pub mod Runs
 pub mod Calls
 pub mod Whole
+pub mod Refusals
+pub mod Wrong

@@ -1,29 +1,26 @@
 -- L and M of a set, as the standards give them by profile; that they undo each other below N; and that the walk for L from cell 0 writes
 -- the list of L. Assumes nothing.
-use Prim.Native.Nat.{ℕ, zero, _-_, _≤_, _<_}
+use Prim.Native.Nat.{ℕ, _-_}
 use mathlib.Core.Bool.{Bool, true, false, cond}
 use mathlib.Core.List.{List}
-use mathlib.Core.Path.{_≡_, refl, sym, ap, _∙_, subst}
-use native.Mathlib.Nat.{sub-zero}
+use mathlib.Core.Path.{_≡_, refl, sym, ap, _∙_}
 use native.Mathlib.Omega.{arith}
-use lib.ListN.{length, getD}
+use lib.ListN.{getD}
 use borrow.Author.Tests.{lt-ltb}
 use Rattle.laws.specs.Outcome.{done}
-use Rattle.laws.specs.Run.{run, length-run, run-getD}
-use Rattle.laws.specs.Keep.{keep, wrote}
-use Rattle.laws.specs.Cut.{wrote-take}
+use Rattle.laws.specs.Run.{run, run-getD}
+use Rattle.laws.specs.Keep.{keep}
 use Rattle.laws.specs.Bare.{keep-bare}
 use Rattle.laws.specs.Once.{inside}
 use Rattle.laws.specs.Perm.{Perm}
 use Rattle.sets.specs.declared.Set.{Set}
 use Rattle.sets.specs.Verdict.{verdictOf}
-use Rattle.sets.specs.Table.{rowsOf, groupOf}
+use Rattle.sets.specs.Profiles.{rowsOf, groupOf}
 use Rattle.carrier.specs.Formula.{carrierL, carrierM}
-use Rattle.wcdma_plan.specs.Rectangle.{cells}
 use Rattle.wcdma.specs.Turbo.{address, addresses, turboL, turboM}
 use Rattle.wcdma.specs.Law.{as-many}
 use Rattle.wcdma.specs.Law as law
-use Rattle.walks.specs.Course.{Course, isTurbo, courseL}
+use Rattle.walks.specs.Course.{isTurbo, courseL}
 use Rattle.walks.specs.Passed.{Taken, course-carrier, course-turbo}
 use Rattle.walks.specs.ByCarrier.{carrier-perm}
 use Rattle.walks.specs.ByTurbo.{size-of}

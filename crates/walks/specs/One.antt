@@ -2,14 +2,14 @@
 use Prim.Native.Nat.{ℕ, min, _-_, _≤_, _<_}
 use mathlib.Core.Bool.{true, false}
 use mathlib.Core.List.{[], _∷_}
-use mathlib.Core.Path.{_≡_, sym, ap, ap₂, _∙_}
+use mathlib.Core.Path.{_≡_, ap, _∙_}
 use native.Mathlib.Omega.{arith}
 use borrow.Author.Tests.{le-leb, lt-leb}
-use Rattle.laws.specs.Outcome.{done, refused, line, clear, stopped, first, judged}
+use Rattle.laws.specs.Outcome.{done, refused, line, first, judged}
 use Rattle.sets.specs.declared.Set.{Set}
 use Rattle.sets.specs.declared.Refusal.{Refusal}
 use Rattle.sets.specs.Verdict.{refusal}
-use Rattle.sets.specs.Table.{rowsOf, groupOf}
+use Rattle.sets.specs.Profiles.{rowsOf, groupOf}
 use Rattle.wcdma_plan.specs.Numbers.{searchFails}
 use Rattle.wcdma.specs.Post.{OneIn}
 use Rattle.walks.specs.Answer.{positionLine, oneLines}

@@ -1,12 +1,12 @@
 -- An accepted set: its lines in front are clear, and its course is that of its profile. Assumes nothing.
-use mathlib.Core.Bool.{Bool, true, false, cond, _&&_}
+use mathlib.Core.Bool.{Bool, true, false}
 use mathlib.Core.List.{List, [], _∷_, _++_, append-assoc}
 use mathlib.Core.Path.{_≡_, refl, sym, ap, _∙_}
 use Rattle.laws.specs.Outcome.{done, refused, Line, line, first, judged, after, done-front, refused-front, kept-front}
 use Rattle.sets.specs.declared.Set.{Set}
 use Rattle.sets.specs.declared.Refusal.{Refusal}
 use Rattle.sets.specs.Verdict.{setLines, refusal, verdictOf}
-use Rattle.sets.specs.Table.{rowsOf, groupOf}
+use Rattle.sets.specs.Profiles.{rowsOf, groupOf}
 use Rattle.carrier.specs.Formula.{carrierL, carrierM}
 use Rattle.wcdma_plan.specs.Rectangle.{cells}
 use Rattle.wcdma_plan.specs.Numbers.{searchFails}

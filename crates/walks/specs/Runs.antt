@@ -1,15 +1,14 @@
 -- Cutting a walk, along any course: in pieces, with refused calls between, it is the walk as a whole. And what a walk is: the first
 -- addresses that pass among the cells from its cell on; the cells it examines are the addresses written and the padding passed.
 -- Assumes nothing.
-use Prim.Native.Nat.{ℕ, zero, suc, _+_, _-_, _≤_, _<_}
-use mathlib.Core.Bool.{Bool, true, false, cond}
-use mathlib.Core.List.{List, [], _∷_, _++_, append-assoc}
-use mathlib.Core.Path.{_≡_, refl, sym, ap, ap₂, _∙_}
-use native.Mathlib.Nat.{add-zero, add-assoc, sub-zero}
+use Prim.Native.Nat.{ℕ, _+_, _-_}
+use mathlib.Core.List.{_++_}
+use mathlib.Core.Path.{_≡_, sym, ap, _∙_}
+use native.Mathlib.Nat.{add-assoc}
 use native.Mathlib.Omega.{arith}
 use lib.ListN.{length, take}
 use Rattle.laws.specs.Keep.{keep, wrote, steps}
-use Rattle.laws.specs.Cut.{cut, cut-steps, steps-are, steps-le, wrote-take}
+use Rattle.laws.specs.Cut.{cut, cut-steps, steps-are, wrote-take}
 use Rattle.laws.specs.Once.{inside}
 use Rattle.sets.specs.declared.Set.{Set}
 use Rattle.walks.specs.declared.Walk.{Walk}

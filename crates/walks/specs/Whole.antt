@@ -1,13 +1,13 @@
 -- A walk for L from cell 0: its lines are those of the set's plan, and with room for N it writes L, at 0 to N - 1. Assumes nothing.
 use Prim.Native.Nat.{ℕ, _-_, _≤_, _<_}
 use mathlib.Core.List.{List, [], _∷_, _++_}
-use mathlib.Core.Path.{_≡_, refl, sym, ap, _∙_}
+use mathlib.Core.Path.{_≡_, refl, ap, _∙_}
 use native.Mathlib.Nat.{sub-zero}
 use native.Mathlib.Omega.{arith}
 use lib.ListN.{length, take, drop}
 use lib.Seq.{take-all}
 use borrow.Author.Tests.{le-ltb}
-use Rattle.laws.specs.Outcome.{done, Line, line, Ruling, clear, stopped, first, settle, first-join, clear-front, first-clear, clear-done}
+use Rattle.laws.specs.Outcome.{done, line, Ruling, clear, stopped, first, settle, first-join, clear-front, first-clear, clear-done}
 use Rattle.laws.specs.Run.{run, length-run}
 use Rattle.laws.specs.Keep.{keep}
 use Rattle.laws.specs.Loop.{by, by-run}

@@ -1,6 +1,6 @@
 -- A wrong build that no edit of the code gives, as a definition, and where it differs from the walk: at K 41 the sixth cell is padding, and
--- a walk from cell 0 with room for 5 stops before it. Both sides are computed. Assumes nothing.
-use Prim.Native.Nat.{ℕ, zero, suc}
+-- a walk from cell 0 with room for 5 stops before it, and one from that cell with no room stays. Both sides are computed. Assumes nothing.
+use Prim.Native.Nat.{ℕ, zero, suc, _-_}
 use mathlib.Core.Bool.{Bool, cond}
 use mathlib.Core.Path.{_≡_, refl}
 use Rattle.laws.specs.Keep.{steps}
@@ -29,3 +29,12 @@ five-cells = refl
 pub eager-six : eagerCells (address 41) (inside 41) 0 (cells 41) 5 ≡ 6
 unfolding eagerCells rows primes firstPrime prime colsOf cols cells power firstOne generates rootFrom root gcdIn gcd noDivisor isPrime passes nextIn nextQ qOf rowOrders whichOrder orderOf rowAt entry address
 eager-six = refl
+
+-- at that cell, with no room at all, the walk moves nothing, and this build moves on
+pub none-moves : walkCells 41 5 0 ≡ 0
+unfolding walkCells steps rows primes firstPrime prime colsOf cols cells power firstOne generates rootFrom root gcdIn gcd noDivisor isPrime passes nextIn nextQ qOf rowOrders whichOrder orderOf rowAt entry address
+none-moves = refl
+
+pub eager-moves : eagerCells (address 41) (inside 41) 5 (cells 41 - 5) 0 ≡ 1
+unfolding eagerCells rows primes firstPrime prime colsOf cols cells power firstOne generates rootFrom root gcdIn gcd noDivisor isPrime passes nextIn nextQ qOf rowOrders whichOrder orderOf rowAt entry address
+eager-moves = refl

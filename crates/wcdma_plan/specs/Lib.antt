@@ -7,4 +7,5 @@ pub mod Euclid
 pub mod Primes
 pub mod Roots
 pub mod Found
+pub mod Search
 pub mod Post

@@ -9,7 +9,7 @@ use lib.Dec.{ltb, eqb}
 use lib.ListN.{getD}
 use borrow.Author.Tests.{ltb-true, eqb-true}
 use Rattle.laws.specs.Perm.{Perm}
-use Rattle.laws.specs.Table.{both, every, at-each}
+use Rattle.laws.specs.Members.{both, every, at-each}
 use Rattle.laws.specs.Span.{span, at-number}
 use Rattle.laws.specs.Position.{position}
 use Rattle.wcdma_plan.specs.Rectangle.{within, rows}

@@ -7,7 +7,7 @@ use native.Mathlib.Nat.{eq-or-lt-of-le}
 use native.Mathlib.Omega.{arith}
 use lib.Dec.{eqb, ltb}
 use borrow.Author.Tests.{ltb-true, lt-ltb, ltb-false, eqb-true, eqb-false, eq-eqb, ne-eqb}
-use Rattle.laws.specs.Table.{both}
+use Rattle.laws.specs.Members.{both}
 use Rattle.laws.specs.Keep.{keep}
 use Rattle.wcdma_plan.specs.Rectangle.{primes}
 use Rattle.wcdma_plan.specs.Numbers.{gcd, noDivisor, isPrime, passes, nextIn, above, nextQ}

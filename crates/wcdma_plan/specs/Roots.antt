@@ -9,7 +9,7 @@ use native.Mathlib.Nat.{eq-or-lt-of-le, add-zero, add-suc, suc-add, zero-add, mu
 use native.Mathlib.Omega.{arith}
 use lib.Dec.{eqb, ltb}
 use borrow.Author.Tests.{ltb-true, eqb-true, eqb-false}
-use Rattle.laws.specs.Table.{both, every, at-each}
+use Rattle.laws.specs.Members.{both, every, at-each}
 use Rattle.laws.specs.Units.{undo, undo-inj}
 use Rattle.wcdma_plan.specs.Rectangle.{primes, prime}
 use Rattle.wcdma_plan.specs.Powers.{power, firstOne, generates, rootFrom, root, isSix}

@@ -8,7 +8,7 @@ use native.Mathlib.Nat.{mul-le-mul}
 use native.Mathlib.Omega.{arith}
 use lib.Dec.{ltb, leb}
 use borrow.Author.Tests.{leb-true, leb-false, ltb-true, le-leb, lt-leb}
-use Rattle.laws.specs.Table.{both, every, at-each}
+use Rattle.laws.specs.Members.{both, every, at-each}
 use Rattle.laws.specs.Run.{mem-at}
 use Rattle.wcdma_plan.specs.Rectangle.{within, rows, primes, firstPrime, prime, colsOf, cols, cells}
 

@@ -1,7 +1,7 @@
 -- `sets::bits_listed` is the test of the bits, profile by profile.
 use mathlib.Core.Bool.{or-false}
 use borrow.Author.Tests.{eq-eqb, ne-eqb}
-use Rattle.sets.specs.Table.{bitsListed}
+use Rattle.sets.specs.Profiles.{bitsListed}
 use Rattle.sets.proofs.bits_listed.Statement.{statement}
 use Rattle.sets.proofs.bits_listed.Tie as tie
 

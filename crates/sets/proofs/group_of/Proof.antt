@@ -1,7 +1,7 @@
 -- `sets::group_of` is s, and s is 1, 2 or 3.
 use native.Mathlib.Omega.{arith}
 use borrow.Author.Tests.{eq-eqb, ne-eqb}
-use Rattle.sets.specs.Table.{groupOf}
+use Rattle.sets.specs.Profiles.{groupOf}
 use Rattle.sets.proofs.group_of.Statement.{statement}
 use Rattle.sets.proofs.group_of.Tie as tie
 

@@ -1,6 +1,6 @@
 -- `sets::profile_listed` is the test of the profile.
 use mathlib.Core.Path.{refl}
-use Rattle.sets.specs.Table.{profileListed}
+use Rattle.sets.specs.Profiles.{profileListed}
 use Rattle.sets.proofs.profile_listed.Statement.{statement}
 use Rattle.sets.proofs.profile_listed.Tie as tie
 

@@ -1,6 +1,6 @@
 -- `sets::rows_of` is d.
 use borrow.Author.Tests.{eq-eqb, ne-eqb}
-use Rattle.sets.specs.Table.{rowsOf}
+use Rattle.sets.specs.Profiles.{rowsOf}
 use Rattle.sets.proofs.rows_of.Statement.{statement}
 use Rattle.sets.proofs.rows_of.Tie as tie
 

@@ -3,7 +3,7 @@ use mathlib.Core.Path.{_∙_}
 use mathlib.Core.Bool.{or-false}
 use borrow.Author.Needs.{needs}
 use borrow.Author.Tests.{eq-eqb, ne-eqb}
-use Rattle.sets.specs.Table.{sizeListed}
+use Rattle.sets.specs.Profiles.{sizeListed}
 use Rattle.sets.proofs.size_listed.Statement.{statement}
 use Rattle.sets.proofs.size_listed.Tie as tie
 

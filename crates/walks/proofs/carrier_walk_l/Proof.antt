@@ -1,5 +1,4 @@
 -- `walks::carrier_walk_l` meets its contract: 9 by its test, and else what the leaf walk wrote and counted.
-use mathlib.Core.Path.{_≡_, refl, sym, ap, _∙_}
 use borrow.Author.Needs.{needs}
 use Rattle.carrier.specs.Formula.{carrierL}
 use Rattle.walks.specs.Course.{courseL}

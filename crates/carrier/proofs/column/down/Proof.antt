@@ -8,13 +8,10 @@ use Rattle.carrier.proofs.column.down.Statement.{statement}
 use Rattle.carrier.proofs.column.down.Tie as tie
 
 abbrev Inv-loop : tie.InvT-loop
-Inv-loop d n s col row out₀ from stop c at₀ i₀ out at i = Down d n s col row from stop out₀ out at i
+Inv-loop d n s c col row out₀ from stop at₀ i₀ out at i = Down d n s col row from stop out₀ out at i
 
 abbrev μ-loop : tie.MeasureT-loop
-μ-loop d n s col row out₀ from stop c at₀ i₀ out at i = stop - i
-
-div-c : tie.Need-div-c Inv-loop μ-loop
-div-c c = c .before .pre .size .d-pos
+μ-loop d n s c col row out₀ from stop at₀ i₀ out at i = stop - i
 
 loop-holds : tie.Need-loop-holds Inv-loop μ-loop
 loop-holds c = down-first (c .before .pre)
@@ -45,7 +42,7 @@ loop-again c =
     let z = c .before .before .before .before .before .pre in
     let g = c .before .before .before .loop .inv in
     let h = c .before .before .loop-test .taken in
-    down-next z g h (c .before .address .ensures) (c .next .ensures _ _ _ (omega (arith, row-in z g h, d-le (z .size))) (g .place))
+    down-next z g h (c .before .address .ensures) (c .next .ensures _ _ _ (omega (arith, row-in z g h, d-le (z .size))))
 
 same-length : tie.Need-same-length Inv-loop μ-loop
 same-length c = c .before .loop .inv .long
@@ -59,7 +56,6 @@ down-spec =
     (tie.spec
     Inv-loop
     μ-loop
-    div-c
     loop-holds
     address-requires
     cast-out

@@ -1,6 +1,6 @@
 -- `carrier::column::walk` writes M from any cell on, column by column. The loop's invariant is the law of lanes; the measure is what is left.
 use Prim.Native.Nat.{_-_}
-use mathlib.Core.Path.{sym}
+use mathlib.Core.Path.{refl, sym}
 use native.Mathlib.Nat.{mod-lt, div-le-self}
 use native.Mathlib.Omega.{arith}
 use Rattle.laws.specs.Sized.{row-whole, d-le}
@@ -54,6 +54,7 @@ down-requires c κs =
     record {
       size = b .size;
       small = b .small;
+      c-is = refl;
       spot = l .before .loop .inv .state (l .loop-test .taken);
       part = part (l .before .loop .inv) (l .loop-test .taken) (c .before .least2 .ensures) (sym (row-whole (b .size))) (l .before .before .before .least .ensures);
     }

@@ -7,7 +7,7 @@ use mathlib.Core.Logic.{inl, inr, ⊎-elim}
 use mathlib.Core.Path.{_∙_, _≡_, ap₂, sym}
 use native.Mathlib.Omega.{arith}
 use Rattle.laws.specs.Once.{inside}
-use Rattle.laws.specs.Table.{both}
+use Rattle.laws.specs.Members.{both}
 use Rattle.laws.specs.Written.{Written, begun, ended}
 use Rattle.wcdma_plan.specs.Rectangle.{cells, cols}
 use Rattle.wcdma_plan.specs.Shape.{cells-le, cols-high, prime-small, product-small, rows-le, rows-pos}

@@ -1,10 +1,8 @@
 -- `carrier::row::RowSpot::next` is one column on, whatever the row and the column.
-use Prim.Native.Nat.{ℕ, _+_, _*_, _%_}
-use mathlib.Core.Path.{_≡_, sym}
 use native.Mathlib.Nat.{mod-lt}
 use native.Mathlib.Omega.{arith}
 use borrow.Author.Needs.{needs}
-use Rattle.carrier.specs.Row.{RowAt, row-over, row-on, d-small}
+use Rattle.carrier.specs.Row.{row-over, row-on, d-small}
 use Rattle.carrier.proofs.row.RowSpot.next.Statement.{statement}
 use Rattle.carrier.proofs.row.RowSpot.next.Tie as tie
 

@@ -1,17 +1,17 @@
 -- What each profile admits, as tests of a set: document 01's table "Profiles and what each admits", read as three questions.
 -- specs/Listed.antt counts the same table out, and specs/Admits.antt shows that the two agree. Assumes nothing: these are definitions.
-use mathlib.Core.Bool.{Bool, cond, _&&_, _||_}
-use mathlib.Core.List.{List, [], _∷_}
-use Prim.Native.Nat.{ℕ, _*_, _%_}
-use lib.Dec.{leb, ltb, eqb}
-use Rattle.laws.specs.Table.{oneOf, multiple}
+use mathlib.Core.Bool.{Bool, cond, _&&_}
+use mathlib.Core.List.{[], _∷_}
+use Prim.Native.Nat.{ℕ, _*_}
+use lib.Dec.{leb, eqb}
+use Rattle.laws.specs.Members.{oneOf, multiple}
 use Rattle.sets.specs.declared.Set.{Set}
 
--- d of a carrier profile: 12 for 1 (IEEE 802.16 OFDM), 16 for 2, 3 and 4
+-- d of a carrier profile: 12 for 1 (IEEE 802.16 OFDM), 16 for 2, 3 and 4. For other profiles it is not read
 unfoldable pub rowsOf : Set → ℕ
 rowsOf s = cond (eqb (s .profile) 1) 12 16
 
--- s is 1, 1, 2, 3 for bits 1, 2, 4, 6
+-- s of a carrier profile: 1, 1, 2, 3 for bits 1, 2, 4, 6. For other bits it is not read
 unfoldable pub groupOf : Set → ℕ
 groupOf s = cond (eqb (s .bits) 6) 3 (cond (eqb (s .bits) 4) 2 1)
 
