@@ -14,7 +14,7 @@ unfoldable pub zeroSkipped : (ℕ → ℕ) → ℕ → List ℕ → List ℕ →
 zeroSkipped f n xs old = run (λ t. cond (eqb (getD xs (f t) 0) 0) (getD old t 0) (getD xs (f t) 0)) 0 n
 
 -- 0 and 5 into an output of 7s: 5 and 0, where this build leaves 5 and 7
-pub zero-moved : gather (λ t. 1 - t) 2 0 (0 ∷ 5 ∷ []) ≡ 5 ∷ 0 ∷ []
+pub zero-moved : gather {A = ℕ} (λ t. 1 - t) 2 0 (0 ∷ 5 ∷ []) ≡ 5 ∷ 0 ∷ []
 unfolding gather
 zero-moved = refl
 
