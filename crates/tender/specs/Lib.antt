@@ -1,3 +1,5 @@
+pub mod Condition1
 pub mod Condition2
+pub mod Condition3
 pub mod Turbo
 pub mod Stream

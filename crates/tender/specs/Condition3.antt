@@ -1,0 +1,46 @@
+-- Condition 3 of the tender, for the address walks: cut anywhere, with refused calls between, joined, the outcome is that of one call, and of
+-- the closed form. Both walks: that of L along courseL with its lines, that of M along courseM with its own. (The streams' part is in
+-- Stream.antt.) Assumes nothing.
+use Prim.Native.Nat.{ℕ, _+_, _-_}
+use mathlib.Core.List.{List}
+use mathlib.Core.Path.{_≡_}
+use lib.ListN.{length, take}
+use Rattle.laws.specs.Outcome.{Clear}
+use Rattle.laws.specs.Keep.{keep}
+use Rattle.laws.specs.Once.{inside}
+use Rattle.sets.specs.declared.Set.{Set}
+use Rattle.walks.specs.declared.Walk.{Walk}
+use Rattle.walks.specs.Course.{Course, courseL, courseM}
+use Rattle.walks.specs.Answer.{walkLines, backLines, walkList, walkCells, walkPadding, walkNext}
+use Rattle.walks.specs.Runs as runs
+use Rattle.walks.specs.Calls.{Call, Handed, joined, ended, examined, rooms, next-accepted-l, next-accepted-m}
+use Rattle.walks.specs.Calls as calls
+
+-- any list of calls, the accepted ones handing the record on, refused ones with any record between: the joined list, the end and the cells
+-- are those of one walk with all their room
+pub walk-cut-l : {w : Walk} {cs : List Call} → Handed courseL walkLines w cs
+    → (joined courseL walkLines cs ≡ walkList courseL w (rooms courseL walkLines cs))
+    × (ended courseL walkLines w cs ≡ walkNext courseL w (rooms courseL walkLines cs))
+    × (examined courseL walkLines cs ≡ walkCells courseL w (rooms courseL walkLines cs))
+walk-cut-l h = let r = calls.walk-cut courseL walkLines h in (r .list, r .end, r .cells)
+
+pub walk-cut-m : {w : Walk} {cs : List Call} → Handed courseM backLines w cs
+    → (joined courseM backLines cs ≡ walkList courseM w (rooms courseM backLines cs))
+    × (ended courseM backLines w cs ≡ walkNext courseM w (rooms courseM backLines cs))
+    × (examined courseM backLines cs ≡ walkCells courseM w (rooms courseM backLines cs))
+walk-cut-m h = let r = calls.walk-cut courseM backLines h in (r .list, r .end, r .cells)
+
+-- and a record that an accepted walk gives back is accepted again, so that a walk can always go on
+pub walk-goes-on : (w : Walk) (room : ℕ)
+    → (Clear (walkLines w) → Clear (walkLines (walkNext courseL w room))) × (Clear (backLines w) → Clear (backLines (walkNext courseM w room)))
+walk-goes-on w room = (next-accepted-l w room, next-accepted-m w room)
+
+-- the closed form, along any course: from any cell, with any room, the first of the addresses that are not padding among the cells from there
+-- to the total
+pub walk-list : (course : Set → Course) (w : Walk) (room : ℕ)
+    → walkList course w room ≡ take room (keep (course (w .set) .address) (inside (w .set .n)) (w .cell) (course (w .set) .total - w .cell))
+walk-list course w room = runs.walk-list course w room
+
+-- the cells examined are the addresses written and the padding passed, counted by the test on each address from the old cell to the new
+pub cells-are : (course : Set → Course) (w : Walk) (room : ℕ) → walkCells course w room ≡ length (walkList course w room) + walkPadding course w room
+cells-are course w room = runs.cells-are course w room
