@@ -9,10 +9,12 @@ ghost use Rattle.walks.specs.Course.{courseL, courseM};
 ghost use Rattle.walks.specs.Answer.{walkLines, backLines, oneLines, walkValues, walkSlice, sayWalked, sayFound};
 ghost use Rattle.walks.specs.Passed.{Taken};
 ghost use Rattle.walks.specs.Lists.{source, target};
+
+mod one; // one.rt: single addresses, by profile
+
 use sets::Refusal;
 use sets::Set;
 use sets::Verdict;
-use wcdma::TurboOne;
 use wcdma::TurboWalk;
 
 // A walk's record: a parameter set, and the next cell.
@@ -163,39 +165,6 @@ pub fn walk_m(w: Walk, out: &mut [u16]) -> Walked
     }
 }
 
-// One address of an accepted carrier set: 4, then L(t).
-fn carrier_one_l(set: Set, t: u32) -> Found
-    requires { ⌜ Taken set false ⌝ }
-    ensures { λ r. ⌜ sayFound r ≡ judged (refusal set) (oneLines set t) (source set t) ⌝ }
-{
-    let n = set.n;
-    if n <= t {
-        return Found::Refused(sets::refusal_of(set, 4));
-    }
-    let d = sets::rows_of(set) as usize;
-    let s = sets::group_of(set) as usize;
-    Found::At(carrier::row::address(d, n as usize, s, t as usize) as u32)
-}
-
-// One address of an accepted set of profile 5: 8, then 4, then L(t). Past the block the leaf is asked for the last position.
-fn turbo_one_l(set: Set, t: u32) -> Found
-    requires { ⌜ Taken set true ⌝ }
-    ensures { λ r. ⌜ sayFound r ≡ judged (refusal set) (oneLines set t) (source set t) ⌝ }
-{
-    let n = set.n;
-    let x = least(t, n - 1);
-    let f = wcdma::address_of(n as usize, x as usize);
-    match f {
-        TurboOne::Failed => Found::Refused(sets::refusal_of(set, 8)),
-        TurboOne::At(a) => {
-            if n <= t {
-                return Found::Refused(sets::refusal_of(set, 4));
-            }
-            Found::At(a as u32)
-        }
-    }
-}
-
 // L(t): the input index that output t holds. Refusals 1, 2, 3, 8, 4.
 pub fn address_l(set: Set, t: u32) -> Found
     ensures { λ r. ⌜ sayFound r ≡ judged (refusal set) (oneLines set t) (source set t) ⌝ }
@@ -205,42 +174,9 @@ pub fn address_l(set: Set, t: u32) -> Found
         Verdict::Refused(x) => Found::Refused(x),
         Verdict::Accepted => {
             if set.profile == 5 {
-                return turbo_one_l(set, t);
+                return one::turbo_l(set, t);
             }
-            carrier_one_l(set, t)
-        }
-    }
-}
-
-// One address of an accepted carrier set: 4, then M(k).
-fn carrier_one_m(set: Set, k: u32) -> Found
-    requires { ⌜ Taken set false ⌝ }
-    ensures { λ r. ⌜ sayFound r ≡ judged (refusal set) (oneLines set k) (target set k) ⌝ }
-{
-    let n = set.n;
-    if n <= k {
-        return Found::Refused(sets::refusal_of(set, 4));
-    }
-    let d = sets::rows_of(set) as usize;
-    let s = sets::group_of(set) as usize;
-    Found::At(carrier::column::address(d, n as usize, s, k as usize) as u32)
-}
-
-// One address of an accepted set of profile 5: 8, then 4, then M(k). Past the block the leaf is asked for the last position.
-fn turbo_one_m(set: Set, k: u32) -> Found
-    requires { ⌜ Taken set true ⌝ }
-    ensures { λ r. ⌜ sayFound r ≡ judged (refusal set) (oneLines set k) (target set k) ⌝ }
-{
-    let n = set.n;
-    let x = least(k, n - 1);
-    let f = wcdma::place_of(n as usize, x as usize);
-    match f {
-        TurboOne::Failed => Found::Refused(sets::refusal_of(set, 8)),
-        TurboOne::At(a) => {
-            if n <= k {
-                return Found::Refused(sets::refusal_of(set, 4));
-            }
-            Found::At(a as u32)
+            one::carrier_l(set, t)
         }
     }
 }
@@ -254,9 +190,9 @@ pub fn address_m(set: Set, k: u32) -> Found
         Verdict::Refused(x) => Found::Refused(x),
         Verdict::Accepted => {
             if set.profile == 5 {
-                return turbo_one_m(set, k);
+                return one::turbo_m(set, k);
             }
-            carrier_one_m(set, k)
+            one::carrier_m(set, k)
         }
     }
 }

@@ -18,16 +18,16 @@ enum-known-v c = search needs
 enum-told : tie.Need-enum-told
 enum-told c = search needs
 
-turbo-one-l-requires : tie.Need-turbo-one-l-requires
-turbo-one-l-requires c κs =
+turbo-l-requires : tie.Need-turbo-l-requires
+turbo-l-requires c κs =
     let z = c .before .before in
     record { accepted = sym (z .before .before .test .ensures) ∙ ap sayVerdict (z .enum-told .given .1); which = eq-eqb _ _ (c .if1 .taken) }
 
 returns : tie.Need-returns
 returns c = search needs
 
-carrier-one-l-requires : tie.Need-carrier-one-l-requires
-carrier-one-l-requires c κs =
+carrier-l-requires : tie.Need-carrier-l-requires
+carrier-l-requires c κs =
     let z = c .before .before in
     record { accepted = sym (z .before .before .test .ensures) ∙ ap sayVerdict (z .enum-told .given .1); which = ne-eqb _ _ (c .if1 .left) }
 
@@ -48,8 +48,8 @@ address-l-spec =
     test-requires
     enum-known-v
     enum-told
-    turbo-one-l-requires
+    turbo-l-requires
     returns
-    carrier-one-l-requires
+    carrier-l-requires
     returns-2
     returns-3)

@@ -18,16 +18,16 @@ enum-known-v c = search needs
 enum-told : tie.Need-enum-told
 enum-told c = search needs
 
-turbo-one-m-requires : tie.Need-turbo-one-m-requires
-turbo-one-m-requires c κs =
+turbo-m-requires : tie.Need-turbo-m-requires
+turbo-m-requires c κs =
     let z = c .before .before in
     record { accepted = sym (z .before .before .test .ensures) ∙ ap sayVerdict (z .enum-told .given .1); which = eq-eqb _ _ (c .if1 .taken) }
 
 returns : tie.Need-returns
 returns c = search needs
 
-carrier-one-m-requires : tie.Need-carrier-one-m-requires
-carrier-one-m-requires c κs =
+carrier-m-requires : tie.Need-carrier-m-requires
+carrier-m-requires c κs =
     let z = c .before .before in
     record { accepted = sym (z .before .before .test .ensures) ∙ ap sayVerdict (z .enum-told .given .1); which = ne-eqb _ _ (c .if1 .left) }
 
@@ -48,8 +48,8 @@ address-m-spec =
     test-requires
     enum-known-v
     enum-told
-    turbo-one-m-requires
+    turbo-m-requires
     returns
-    carrier-one-m-requires
+    carrier-m-requires
     returns-2
     returns-3)

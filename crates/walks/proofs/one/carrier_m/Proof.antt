@@ -1,14 +1,14 @@
--- `walks::carrier_one_l` meets its contract: 4 by its test, and else the leaf's L(t).
+-- `walks::one::carrier_m` meets its contract: 4 by its test, and else the leaf's M(k).
 use Prim.Native.Nat.{ℕ}
 use mathlib.Core.Path.{sym, ap, _∙_}
 use native.Mathlib.Omega.{arith}
-use Rattle.carrier.specs.Formula.{carrierL}
+use Rattle.carrier.specs.Formula.{carrierM}
 use Rattle.walks.specs.ByCarrier.{carrier-block, carrier-perm}
-use Rattle.walks.specs.Lists.{source-carrier}
+use Rattle.walks.specs.Lists.{target-carrier}
 use Rattle.walks.specs.One.{carrier-past, carrier-at, rule-of}
 use borrow.Author.Needs.{needs}
-use Rattle.walks.proofs.carrier_one_l.Statement.{statement}
-use Rattle.walks.proofs.carrier_one_l.Tie as tie
+use Rattle.walks.proofs.one.carrier_m.Statement.{statement}
+use Rattle.walks.proofs.one.carrier_m.Tie as tie
 
 refusal-of-requires : tie.Need-refusal-of-requires
 refusal-of-requires c κs = search needs
@@ -41,17 +41,17 @@ cast-t8 : tie.Need-cast-t8
 cast-t8 c =
     let a = c .before .before .before .before in
     let s = a .args .set in
-    omega (arith, c .address .ensures, rule-of carrierL s (a .args .t) (c .before .before .rows-of .ensures) (c .before .group-of .ensures .0), carrier-perm (a .pre) .l-below (a .args .t) (c .before .before .before .if1 .left))
+    omega (arith, c .address .ensures, rule-of carrierM s (a .args .k) (c .before .before .rows-of .ensures) (c .before .group-of .ensures .0), carrier-perm (a .pre) .m-below (a .args .k) (c .before .before .before .if1 .left))
 
 returns-2 : tie.Need-returns-2
 returns-2 c =
     let a = c .before .before .before .before in
     let s = a .args .set in
     carrier-at _ (a .pre) (c .before .before .before .if1 .left)
-    (c .address .ensures ∙ rule-of carrierL s (a .args .t) (c .before .before .rows-of .ensures) (c .before .group-of .ensures .0) ∙ ap (λ (f : ℕ → ℕ). f (a .args .t)) (sym (source-carrier s (a .pre .which))))
+    (c .address .ensures ∙ rule-of carrierM s (a .args .k) (c .before .before .rows-of .ensures) (c .before .group-of .ensures .0) ∙ ap (λ (f : ℕ → ℕ). f (a .args .k)) (sym (target-carrier s (a .pre .which))))
 
-pub carrier-one-l-spec : {M : Type 1} → statement M
-carrier-one-l-spec =
+pub carrier-m-spec : {M : Type 1} → statement M
+carrier-m-spec =
     tie.close
     (tie.spec
     refusal-of-requires
