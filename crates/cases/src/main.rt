@@ -1,0 +1,296 @@
+// The cases of document 01 that no proved table states, and some refusals, by the public calls: each is printed with its outcome.
+mod looks;
+mod words;
+
+use blocks::Moved;
+use looks::MARK;
+use sets::Set;
+use sets::Verdict;
+use streams::Fed;
+use streams::Started;
+use streams::Stream;
+use walks::Found;
+use walks::Walk;
+use walks::Walked;
+
+fn new_set(profile: u32, bits: u32, n: u32) -> Set {
+    Set { profile, bits, n }
+}
+
+// The test of a set.
+fn test(profile: u32, bits: u32, n: u32) {
+    let set = new_set(profile, bits, n);
+    words::set(b"test", set);
+    let v = sets::test(set);
+    match v {
+        Verdict::Accepted => words::text(b": accepted"),
+        Verdict::Refused(x) => words::refused(x),
+    }
+    words::text(b"\n");
+}
+
+fn tests() {
+    test(5, 1, 39);
+    test(5, 1, 40);
+    test(5, 1, 5114);
+    test(5, 1, 5115);
+    test(3, 4, 96);
+    test(3, 4, 192);
+    test(2, 1, 48);
+    test(1, 6, 1152);
+    test(1, 6, 1153);
+    test(0, 1, 48);
+    test(6, 1, 48);
+}
+
+fn walk_either(back: bool, w: Walk, slots: &mut [u16]) -> Walked {
+    if back {
+        return walks::walk_m(w, slots);
+    }
+    walks::walk_l(w, slots)
+}
+
+fn tell_walk(r: Walked, slots: &[u16]) {
+    match r {
+        Walked::Refused(x) => words::refused(x),
+        Walked::Done {
+            written,
+            next,
+            cells,
+        } => {
+            words::number(b": done, written ", written as u64);
+            words::number(b", next ", next.cell as u64);
+            words::number(b", cells ", cells as u64);
+            if 0 < written {
+                words::text(b", addresses");
+            }
+            words::addresses(slots, written);
+        }
+    }
+    words::number(b"; slots kept ", looks::kept(slots));
+    words::text(b"\n");
+}
+
+// A walk into marked slots.
+fn show_walk(back: bool, set: Set, cell: u32, slots: &mut [u16]) {
+    if back {
+        words::set(b"walk for M,", set);
+    } else {
+        words::set(b"walk for L,", set);
+    }
+    words::number(b" from cell ", cell as u64);
+    words::number(b" room ", slots.len() as u64);
+    let r = walk_either(back, Walk { set, cell }, slots);
+    tell_walk(r, slots);
+}
+
+fn walk_none(set: Set, cell: u32) {
+    let mut slots = [MARK; 0];
+    show_walk(false, set, cell, &mut slots);
+}
+
+fn walk_five(back: bool, set: Set, cell: u32) {
+    let mut slots = [MARK; 5];
+    show_walk(back, set, cell, &mut slots);
+}
+
+fn show_walks() {
+    let turbo = new_set(5, 1, 41);
+    let carrier = new_set(3, 4, 192);
+    walk_five(true, turbo, 0);
+    walk_five(false, turbo, 51);
+    walk_five(false, turbo, 50);
+    walk_none(turbo, 5);
+    walk_five(false, turbo, 0);
+    walk_five(false, turbo, 5);
+    walk_five(true, carrier, 0);
+    walk_five(true, carrier, 190);
+    walk_five(true, carrier, 193);
+    walk_five(false, new_set(3, 4, 96), 193);
+}
+
+fn one_either(back: bool, set: Set, i: u32) -> Found {
+    if back {
+        return walks::address_m(set, i);
+    }
+    walks::address_l(set, i)
+}
+
+// One address.
+fn show_one(back: bool, set: Set, i: u32) {
+    if back {
+        words::set(b"M,", set);
+    } else {
+        words::set(b"L,", set);
+    }
+    words::number(b" of ", i as u64);
+    let f = one_either(back, set, i);
+    match f {
+        Found::At(a) => words::number(b": ", a as u64),
+        Found::Refused(x) => words::refused(x),
+    }
+    words::text(b"\n");
+}
+
+fn show_ones() {
+    let turbo = new_set(5, 1, 40);
+    let carrier = new_set(3, 4, 192);
+    show_one(false, turbo, 39);
+    show_one(false, turbo, 40);
+    show_one(true, turbo, 40);
+    show_one(false, carrier, 192);
+    show_one(true, carrier, 191);
+    show_one(true, carrier, 192);
+}
+
+fn move_either(back: bool, set: Set, src: &[u8], dst: &mut [u8]) -> Moved {
+    if back {
+        return blocks::bytes::deinterleave(set, src, dst);
+    }
+    blocks::bytes::interleave(set, src, dst)
+}
+
+fn tell_moved(m: Moved) {
+    match m {
+        Moved::Done => words::text(b": done"),
+        Moved::Refused(x) => words::refused(x),
+    }
+}
+
+// A block of bytes 1 into one of bytes 0, so that every byte that is written shows.
+fn show_block(back: bool, src: &[u8], dst: &mut [u8]) {
+    let set = new_set(3, 1, 48);
+    if back {
+        words::set(b"deinterleave bytes,", set);
+    } else {
+        words::set(b"interleave bytes,", set);
+    }
+    words::number(b" input ", src.len() as u64);
+    words::number(b" output ", dst.len() as u64);
+    tell_moved(move_either(back, set, src, dst));
+    words::number(b"; bytes written ", looks::written(dst));
+    words::text(b"\n");
+}
+
+fn show_blocks(back: bool) {
+    let short = [1u8; 47];
+    let whole = [1u8; 48];
+    let mut a = [0u8; 48];
+    let mut b = [0u8; 47];
+    let mut c = [0u8; 47];
+    let mut d = [0u8; 48];
+    show_block(back, &short, &mut a);
+    show_block(back, &whole, &mut b);
+    show_block(back, &short, &mut c);
+    show_block(back, &whole, &mut d);
+}
+
+fn there(set: Set, input: &[f32; 192], sent: &mut [f32; 192]) {
+    words::set(b"interleave soft values,", set);
+    tell_moved(blocks::soft::interleave(set, input, sent));
+}
+
+fn back_again(set: Set, sent: &[f32; 192], back: &mut [f32; 192]) {
+    words::set(b"deinterleave soft values,", set);
+    tell_moved(blocks::soft::deinterleave(set, sent, back));
+}
+
+fn compare(input: &[f32; 192], other: &[f32; 192]) {
+    words::number(
+        b"; positions whose bits differ from the input ",
+        looks::differing_bits(input, other),
+    );
+    words::text(b"\n");
+}
+
+// Zeros and minus zeros, interleaved and brought back.
+fn show_soft() {
+    let set = new_set(3, 4, 192);
+    let mut input = [0.0f32; 192];
+    let mut sent = [0.0f32; 192];
+    let mut back = [0.0f32; 192];
+    words::set(b"soft block,", set);
+    words::number(b": minus zeros ", looks::zeros(&mut input));
+    words::text(b" of 192\n");
+    there(set, &input, &mut sent);
+    compare(&input, &sent);
+    back_again(set, &sent, &mut back);
+    compare(&input, &back);
+}
+
+fn feed_either(back: bool, s: Stream, store: &mut [u8; 1122], input: &[u8], out: &mut [u8]) -> Fed {
+    if back {
+        return streams::deinterleave(s, store, input, out);
+    }
+    streams::interleave(s, store, input, out)
+}
+
+// The record that a start gives; out of its range where it is refused.
+fn begun(store: &mut [u8; 1122], f: u8) -> Stream {
+    let a = streams::start(store, f);
+    match a {
+        Started::Ready(s) => s,
+        Started::Refused(_) => Stream { phase: 9999999 },
+    }
+}
+
+// The record that a feed gives; out of its range where it is refused.
+fn record(a: Fed) -> Stream {
+    match a {
+        Fed::Next(s) => s,
+        Fed::Refused(_) => Stream { phase: 9999999 },
+    }
+}
+
+fn tell_fed(a: Fed, s: Stream) {
+    match a {
+        Fed::Refused(k) => words::number(b": refused ", k as u64),
+        Fed::Next(next) => {
+            words::text(b": done");
+            words::number(b", phase ", s.phase as u64);
+            words::number(b" moved to ", next.phase as u64);
+        }
+    }
+}
+
+// A feed of nothing, after a start and a feed of the input.
+fn feed_nothing(back: bool, input: &[u8], out: &mut [u8]) {
+    let nothing = [0u8; 0];
+    let mut nowhere = [0u8; 0];
+    let mut store = [0u8; 1122];
+    let s = begun(&mut store, 165);
+    let t = record(feed_either(back, s, &mut store, input, out));
+    let before = store;
+    if back {
+        words::text(b"deinterleaver, feed of nothing into nothing");
+    } else {
+        words::text(b"interleaver, feed of nothing into nothing");
+    }
+    tell_fed(feed_either(back, t, &mut store, &nothing, &mut nowhere), t);
+    words::number(b", ", nothing.len() as u64);
+    words::number(
+        b" bytes; store bytes changed ",
+        looks::differing(&before, &store),
+    );
+    words::text(b"\n");
+}
+
+fn feeds(back: bool) {
+    let none = [7u8; 0];
+    let some = [7u8; 30];
+    let mut a = [0u8; 0];
+    let mut b = [0u8; 30];
+    feed_nothing(back, &none, &mut a);
+    feed_nothing(back, &some, &mut b);
+}
+
+fn main() {
+    tests();
+    show_walks();
+    show_ones();
+    show_blocks(false);
+    show_blocks(true);
+    show_soft();
+    feeds(false);
+    feeds(true);
+}
