@@ -20,7 +20,8 @@ fn new_set(profile: u32, bits: u32, n: u32) -> Set {
 // The test of a set.
 fn test(profile: u32, bits: u32, n: u32) {
     let set = new_set(profile, bits, n);
-    words::set(b"test", set);
+    words::text(b"test");
+    words::set(set);
     let v = sets::test(set);
     match v {
         Verdict::Accepted => words::text(b": accepted"),
@@ -67,17 +68,13 @@ fn tell_walk(r: Walked, slots: &[u16]) {
             words::addresses(slots, written);
         }
     }
-    words::number(b"; slots kept ", looks::kept(slots));
-    words::text(b"\n");
+    words::last(b"; slots kept ", looks::kept(slots));
 }
 
 // A walk into marked slots.
 fn show_walk(back: bool, set: Set, cell: u32, slots: &mut [u16]) {
-    if back {
-        words::set(b"walk for M,", set);
-    } else {
-        words::set(b"walk for L,", set);
-    }
+    words::either(back, b"walk for L,", b"walk for M,");
+    words::set(set);
     words::number(b" from cell ", cell as u64);
     words::number(b" room ", slots.len() as u64);
     let r = walk_either(back, Walk { set, cell }, slots);
@@ -118,11 +115,8 @@ fn one_either(back: bool, set: Set, i: u32) -> Found {
 
 // One address.
 fn show_one(back: bool, set: Set, i: u32) {
-    if back {
-        words::set(b"M,", set);
-    } else {
-        words::set(b"L,", set);
-    }
+    words::either(back, b"L,", b"M,");
+    words::set(set);
     words::number(b" of ", i as u64);
     let f = one_either(back, set, i);
     match f {
@@ -160,16 +154,12 @@ fn tell_moved(m: Moved) {
 // A block of bytes 1 into one of bytes 0, so that every byte that is written shows.
 fn show_block(back: bool, src: &[u8], dst: &mut [u8]) {
     let set = new_set(3, 1, 48);
-    if back {
-        words::set(b"deinterleave bytes,", set);
-    } else {
-        words::set(b"interleave bytes,", set);
-    }
+    words::either(back, b"interleave bytes,", b"deinterleave bytes,");
+    words::set(set);
     words::number(b" input ", src.len() as u64);
     words::number(b" output ", dst.len() as u64);
     tell_moved(move_either(back, set, src, dst));
-    words::number(b"; bytes written ", looks::written(dst));
-    words::text(b"\n");
+    words::last(b"; bytes written ", looks::written(dst));
 }
 
 fn show_blocks(back: bool) {
@@ -185,22 +175,22 @@ fn show_blocks(back: bool) {
     show_block(back, &whole, &mut d);
 }
 
-fn there(set: Set, input: &[f32; 192], sent: &mut [f32; 192]) {
-    words::set(b"interleave soft values,", set);
-    tell_moved(blocks::soft::interleave(set, input, sent));
+fn move_soft(back: bool, set: Set, src: &[f32; 192], dst: &mut [f32; 192]) -> Moved {
+    if back {
+        return blocks::soft::deinterleave(set, src, dst);
+    }
+    blocks::soft::interleave(set, src, dst)
 }
 
-fn back_again(set: Set, sent: &[f32; 192], back: &mut [f32; 192]) {
-    words::set(b"deinterleave soft values,", set);
-    tell_moved(blocks::soft::deinterleave(set, sent, back));
-}
-
-fn compare(input: &[f32; 192], other: &[f32; 192]) {
-    words::number(
-        b"; positions whose bits differ from the input ",
-        looks::differing_bits(input, other),
+fn tell_soft(back: bool, set: Set, m: Moved, differing: u64) {
+    words::either(
+        back,
+        b"interleave soft values,",
+        b"deinterleave soft values,",
     );
-    words::text(b"\n");
+    words::set(set);
+    tell_moved(m);
+    words::last(b"; positions whose bits differ from the input ", differing);
 }
 
 // Zeros and minus zeros, interleaved and brought back.
@@ -209,13 +199,11 @@ fn show_soft() {
     let mut input = [0.0f32; 192];
     let mut sent = [0.0f32; 192];
     let mut back = [0.0f32; 192];
-    words::set(b"soft block,", set);
-    words::number(b": minus zeros ", looks::zeros(&mut input));
-    words::text(b" of 192\n");
-    there(set, &input, &mut sent);
-    compare(&input, &sent);
-    back_again(set, &sent, &mut back);
-    compare(&input, &back);
+    words::last(b"soft block of 192, minus zeros ", looks::zeros(&mut input));
+    let m = move_soft(false, set, &input, &mut sent);
+    tell_soft(false, set, m, looks::differing_bits(&input, &sent));
+    let k = move_soft(true, set, &sent, &mut back);
+    tell_soft(true, set, k, looks::differing_bits(&input, &back));
 }
 
 fn feed_either(back: bool, s: Stream, store: &mut [u8; 1122], input: &[u8], out: &mut [u8]) -> Fed {
@@ -242,15 +230,18 @@ fn record(a: Fed) -> Stream {
     }
 }
 
-fn tell_fed(a: Fed, s: Stream) {
+fn tell_fed(back: bool, a: Fed, s: Stream, bytes: u64, changed: u64) {
+    words::either(back, b"interleaver", b"deinterleaver");
+    words::text(b", feed of nothing into nothing");
     match a {
         Fed::Refused(k) => words::number(b": refused ", k as u64),
         Fed::Next(next) => {
-            words::text(b": done");
-            words::number(b", phase ", s.phase as u64);
+            words::number(b": done, phase ", s.phase as u64);
             words::number(b" moved to ", next.phase as u64);
         }
     }
+    words::number(b", ", bytes);
+    words::last(b" bytes; store bytes changed ", changed);
 }
 
 // A feed of nothing, after a start and a feed of the input.
@@ -261,18 +252,14 @@ fn feed_nothing(back: bool, input: &[u8], out: &mut [u8]) {
     let s = begun(&mut store, 165);
     let t = record(feed_either(back, s, &mut store, input, out));
     let before = store;
-    if back {
-        words::text(b"deinterleaver, feed of nothing into nothing");
-    } else {
-        words::text(b"interleaver, feed of nothing into nothing");
-    }
-    tell_fed(feed_either(back, t, &mut store, &nothing, &mut nowhere), t);
-    words::number(b", ", nothing.len() as u64);
-    words::number(
-        b" bytes; store bytes changed ",
+    let a = feed_either(back, t, &mut store, &nothing, &mut nowhere);
+    tell_fed(
+        back,
+        a,
+        t,
+        nothing.len() as u64,
         looks::differing(&before, &store),
     );
-    words::text(b"\n");
 }
 
 fn feeds(back: bool) {

@@ -12,9 +12,22 @@ pub fn number(words: &[u8], n: u64) {
     io::print_decimal(STDOUT_FILENO, n);
 }
 
+// The last number of a line.
+pub fn last(words: &[u8], n: u64) {
+    number(words, n);
+    text(b"\n");
+}
+
+// What is called: one way, or back.
+pub fn either(back: bool, there: &[u8], again: &[u8]) {
+    if back {
+        return text(again);
+    }
+    text(there);
+}
+
 // A parameter set, in the middle of a line.
-pub fn set(words: &[u8], s: Set) {
-    text(words);
+pub fn set(s: Set) {
     number(b" profile ", s.profile as u64);
     number(b" bits ", s.bits as u64);
     number(b" N ", s.n as u64);
