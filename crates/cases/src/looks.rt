@@ -1,4 +1,5 @@
 // What is looked at: loops that fill and compare, with no call of the library in them.
+
 // No address: the last of any set is 5,113.
 pub const MARK: u16 = 65535;
 

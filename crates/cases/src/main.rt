@@ -153,7 +153,7 @@ fn tell_moved(m: Moved) {
 
 // A block of bytes 1 into one of bytes 0, so that every byte that is written shows.
 fn show_block(back: bool, src: &[u8], dst: &mut [u8]) {
-    let set = new_set(3, 1, 48);
+    let set = new_set(1, 1, 12);
     words::either(back, b"interleave bytes,", b"deinterleave bytes,");
     words::set(set);
     words::number(b" input ", src.len() as u64);
@@ -163,12 +163,12 @@ fn show_block(back: bool, src: &[u8], dst: &mut [u8]) {
 }
 
 fn show_blocks(back: bool) {
-    let short = [1u8; 47];
-    let whole = [1u8; 48];
-    let mut a = [0u8; 48];
-    let mut b = [0u8; 47];
-    let mut c = [0u8; 47];
-    let mut d = [0u8; 48];
+    let short = [1u8; 11];
+    let whole = [1u8; 12];
+    let mut a = [0u8; 12];
+    let mut b = [0u8; 11];
+    let mut c = [0u8; 11];
+    let mut d = [0u8; 12];
     show_block(back, &short, &mut a);
     show_block(back, &whole, &mut b);
     show_block(back, &short, &mut c);
@@ -264,9 +264,9 @@ fn feed_nothing(back: bool, input: &[u8], out: &mut [u8]) {
 
 fn feeds(back: bool) {
     let none = [7u8; 0];
-    let some = [7u8; 30];
+    let some = [7u8; 14];
     let mut a = [0u8; 0];
-    let mut b = [0u8; 30];
+    let mut b = [0u8; 14];
     feed_nothing(back, &none, &mut a);
     feed_nothing(back, &some, &mut b);
 }
