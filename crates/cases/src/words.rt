@@ -1,0 +1,54 @@
+// What is printed: plain words and numbers.
+use libc::STDOUT_FILENO;
+use sets::Refusal;
+use sets::Set;
+
+pub fn text(words: &[u8]) {
+    io::write_all(STDOUT_FILENO, words);
+}
+
+pub fn number(words: &[u8], n: u64) {
+    io::write_all(STDOUT_FILENO, words);
+    io::print_decimal(STDOUT_FILENO, n);
+}
+
+// The last number of a line.
+pub fn last(words: &[u8], n: u64) {
+    number(words, n);
+    text(b"\n");
+}
+
+// What is called: one way, or back.
+pub fn either(back: bool, there: &[u8], again: &[u8]) {
+    if back {
+        return text(again);
+    }
+    text(there);
+}
+
+// A parameter set, in the middle of a line.
+pub fn set(s: Set) {
+    number(b" profile ", s.profile as u64);
+    number(b" bits ", s.bits as u64);
+    number(b" N ", s.n as u64);
+}
+
+pub fn refused(x: Refusal) {
+    number(b": refused ", x.number as u64);
+}
+
+// One address in a list.
+fn address(a: u16) {
+    number(b" ", a as u64);
+}
+
+// The first n addresses of a slice.
+pub fn addresses(slots: &[u16], n: u32) {
+    let mut i = 0;
+    while i < slots.len() {
+        if i < n as usize {
+            address(slots[i]);
+        }
+        i += 1;
+    }
+}
