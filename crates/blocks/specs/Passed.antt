@@ -6,7 +6,7 @@ use native.Mathlib.Omega.{arith}
 use lib.Dec.{eqb}
 use lib.ListN.{length}
 use borrow.Author.Tests.{eq-eqb, ne-eqb, eqb-true, eqb-false, not-false}
-use Rattle.laws.specs.Outcome.{done, refused, Ruling, clear, stopped, first, settle, judged, after, clear-then, clear-back, first-clear, stopped-front, answer-keeps, answer-clear}
+use Rattle.laws.specs.Outcome.{done, refused, Ruling, clear, stopped, first, settle, judged, after, clear-then, clear-back, first-clear, stopped-front, answer-keeps, answer-clear, never}
 use Rattle.laws.specs.Move.{gather, scatter, gather-same, scatter-same}
 use Rattle.laws.specs.Loop.{by, Within}
 use Rattle.sets.specs.declared.Set.{Set}
@@ -108,9 +108,6 @@ module _ {s : Set} {i o size : ℕ} {table : List ℕ} (same : length table ≡ 
     same-size = same;
     tabled = λ e. absurd (never (sym (r .ruling) ∙ e));
   }
-    where
-      never : {k : ℕ} → stopped k ≡ clear → ⊥
-      never {k} p = let z : _≡_ {A = ℕ} 0 1 = cc in omega arith
 
   pub planned-done : first (planLines s) ≡ clear → i ≡ s .n → o ≡ s .n → Tabled s table → Planned s i o size table Done
   planned-done p e f t = record { says = rw (is-clear s i o p e f); same-size = same; tabled = λ c. t }

@@ -1,4 +1,4 @@
--- A wrong build that no edit of the code gives, as a definition, and where it differs: one that takes a value of zero for padding and skips
+-- A wrong build that no edit gives without the proof losing its shape, as a definition, and where it differs: one that takes a value of zero for padding and skips
 -- it. Both sides are computed, for two symbols that change places. Assumes nothing.
 use Prim.Native.Nat.{ℕ, _-_}
 use mathlib.Core.Bool.{cond}

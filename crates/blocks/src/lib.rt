@@ -10,7 +10,7 @@ ghost use Rattle.blocks.specs.Passed.{Roomy, Planned};
 pub mod bytes; // bytes.rt: blocks of bytes
 pub mod soft; // soft.rt: blocks of soft values
 
-// A table is cleared at each call, so it is chosen by N: no larger than the block wants. The largest holds any listed size.
+// A table is cleared at each call, so it is the smallest of three that holds N. The largest holds any listed size, and those of later profiles.
 const SMALL: usize = 64;
 
 const MIDDLE: usize = 512;

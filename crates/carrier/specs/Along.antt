@@ -15,8 +15,10 @@ use Rattle.carrier.specs.Block.{Block}
 use Rattle.carrier.specs.Row.{RowAt, RowIn, RowStep, row-cell, row-address}
 
 -- a part of a row, and where the walk stands at its beginning
-pub record AlongIn (d n s row col : ℕ) (at : RowSpot) (from stop : ℕ) (out : List ℕ) : Type 0 where
+pub record AlongIn (d n s top group row col : ℕ) (at : RowSpot) (from stop : ℕ) (out : List ℕ) : Type 0 where
   pub size : Sized d n s
+  pub top-is : top ≡ d * (s - 1)
+  pub group-is : group ≡ d * s
   pub small : n < 65536
   pub spot : RowAt d s row col at
   pub part : Part d (n / d) row col from stop out
@@ -41,7 +43,7 @@ module _ {d n s : ℕ} (z : Sized d n s) where
   lift-small {row} {col} p =
       omega (arith, p .lift-is, group-le z, mul-le-mul-left d (let l = mod-lt (col + row) (z .s-pos) in let k : (col + row) % s ≤ s = omega arith in k))
 
-module _ {d n s row col from stop : ℕ} {start : RowSpot} {out₀ : List ℕ} (z : AlongIn d n s row col start from stop out₀) where
+module _ {d n s top group row col from stop : ℕ} {start : RowSpot} {out₀ : List ℕ} (z : AlongIn d n s top group row col start from stop out₀) where
   pub along-first : Along d n s row col from stop out₀ out₀ start from
   along-first = going-first (carrierL d n s) (n / d * row) (RowAt d s row) (let h = z .part .more in omega arith) (z .spot)
 
@@ -55,12 +57,12 @@ module _ {d n s row col from stop : ℕ} {start : RowSpot} {out₀ : List ℕ} (
     pub address-small : at .base + at .lift < 65536
     address-small = omega (arith, address-is, carrier-once (z .size) .l-below _ (row-cell (z .size) (z .part .lane-in) column-in), z .small)
 
-    pub along-step : (top group : ℕ) → top ≡ d * (s - 1) → group ≡ d * s → RowStep d s top group at
-    along-step top group e q = record {
+    pub along-step : RowStep d s top group at
+    along-step = record {
       d-pos = z .size .d-pos;
       s-pos = z .size .s-pos;
-      top-is = e;
-      group-is = q;
+      top-is = z .top-is;
+      group-is = z .group-is;
       group-small = omega (arith, group-le (z .size), z .small);
       base-small = omega (arith, address-small);
       low-small = omega (arith, g .place .low-is, mod-lt (col + (i - from)) (z .size .s-pos), s-le-row (z .size), div-le-self n d, z .small);

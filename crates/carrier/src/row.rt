@@ -85,6 +85,8 @@ fn along(
     d: usize,
     n: usize,
     s: usize,
+    top: usize,
+    group: usize,
     row: usize,
     col: usize,
     start: RowSpot,
@@ -92,11 +94,9 @@ fn along(
     from: usize,
     stop: usize,
 ) -> RowSpot
-    requires { ⌜ AlongIn d n s row col start from stop (now out) ⌝ }
+    requires { ⌜ AlongIn d n s top group row col start from stop (now out) ⌝ }
     ensures { λ r. ⌜ Along d n s row col from stop (now (out .entry)) (now (out .exit)) r stop ⌝ }
 {
-    let top = d * (s - 1);
-    let group = d * s;
     let mut at = start;
     let mut i = from;
     while i < stop {
@@ -126,6 +126,7 @@ pub fn walk(d: usize, n: usize, s: usize, cell: usize, out: &mut [u16]) -> usize
 {
     let c = n / d;
     let top = d * (s - 1);
+    let group = d * s;
     let count = least(out.len(), n - cell);
     let mut row = cell / c;
     let mut col = cell % c;
@@ -133,7 +134,7 @@ pub fn walk(d: usize, n: usize, s: usize, cell: usize, out: &mut [u16]) -> usize
     let mut i = 0;
     while i < count {
         let stop = least(count, i + (c - col));
-        let end = along(d, n, s, row, col, at, out, i, stop);
+        let end = along(d, n, s, top, group, row, col, at, out, i, stop);
         at = end.next_row(d, top, row);
         row += 1;
         col = 0;

@@ -55,7 +55,7 @@ pub record First (ls : List Line) (k : ℕ) : Type 0 where
 
 -- a ruling, read as what it says of the lines
 
-never : {k : ℕ} → stopped k ≡ clear → ⊥
+pub never : {k : ℕ} → stopped k ≡ clear → ⊥
 never {k} p = let z : _≡_ {A = ℕ} 0 1 = cc in omega arith
 
 pub first-clear : (ls : List Line) → first ls ≡ clear → Clear ls

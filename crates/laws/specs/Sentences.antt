@@ -5,11 +5,11 @@ use native.Mathlib.Omega.{arith}
 use mathlib.Core.Bool.{Bool, true, false, cond, not}
 use mathlib.Core.List.{List, [], _∷_}
 use mathlib.Core.Logic.{_≢_, _↔_, _⊎_, inl, inr}
-use mathlib.Core.Path.{_≡_, refl, ap, _∙_}
+use mathlib.Core.Path.{_≡_, refl, sym, ap, _∙_}
 use native.Mathlib.Nat.{not-le-of-lt}
 use lib.Dec.{eqb, leb, ltb}
 use borrow.Author.Tests.{leb-true, leb-false, ltb-true, ltb-false, eqb-true, eqb-false, not-true, not-false}
-use Rattle.laws.specs.Outcome.{Outcome, done, refused, Line, line, Ruling, clear, stopped, first, settle, judged, after}
+use Rattle.laws.specs.Outcome.{Outcome, done, refused, Line, line, Ruling, clear, stopped, first, settle, judged, after, never}
 
 -- a refusal's number, and the sentence that says when it is given
 pub record Sentence : Type 1 where
@@ -41,11 +41,8 @@ module _ {C : Type 0} {ls : List Line} {ps : List Sentence} (k a b : ℕ) where
   pub told-past : Told (C × (ltb a b ≡ false)) ls ps → Told C (line k (ltb a b) ∷ ls) (sentence k (a < b) ∷ ps)
   told-past t = more {p = a < b} (λ c. ltb-true a b) (λ c e n. not-le-of-lt n (ltb-false a b e)) t
 
-never : {k : ℕ} → clear ≡ stopped k → ⊥
-never {k} e = let z : _≡_ {A = ℕ} 0 1 = cc in omega arith
-
 pub told-first : {C : Type 0} {ls : List Line} {ps : List Sentence} → Told C ls ps → C → (k : ℕ) → (first ls ≡ stopped k) ↔ FirstTrue ps k
-told-first none c k = (never, λ h. absurd h)
+told-first none c k = (λ e. never (sym e), λ h. absurd h)
 told-first (more {k = n} {b = b} {p = p} {ls = ls} {ps = ps} yes₁ no₁ t) c k = go b refl (λ e. told-first t (c, e) k)
   where
     go : (d : Bool) → b ≡ d → (b ≡ false → (first ls ≡ stopped k) ↔ FirstTrue ps k)

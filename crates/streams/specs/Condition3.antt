@@ -1,6 +1,6 @@
 -- Condition 3: calls cut anywhere are one run; what comes out of a started machine, and of the two one behind the other. Over bytes of any
 -- type, and with no bound on how many. Assumes nothing.
-use Prim.Native.Nat.{ℕ, suc, _*_, _%_, _<_}
+use Prim.Native.Nat.{ℕ, suc, _-_, _*_, _%_, _<_}
 use mathlib.Core.Path.{_≡_, refl, sym, ap, _∙_}
 use mathlib.Core.List.{List, [], _++_}
 use native.Mathlib.Nat.{zero-add, mod-lt}
@@ -85,6 +85,12 @@ module _ {A : Type 0} where
       → (t : ℕ) → t < length xs → getD ys t f ≡ late f (204 * (t % 12)) (λ n. getD xs n f) t
   unfolding delayAt
   delayed {f} {xs = xs} h c t l = rw (counted h c) (fresh Interleaver 12 17 (lit< tt) (lit< tt) f xs t l)
+
+  -- of a deinterleaver: input t - 204·(11 - t mod 12), or f
+  pub delayed-back : {f : A} {s s′ : Stream} {store xs ys store′ : List A} → Fresh f s store → Calls Deinterleaver s store xs ys s′ store′
+      → (t : ℕ) → t < length xs → getD ys t f ≡ late f (204 * (11 - t % 12)) (λ n. getD xs n f) t
+  unfolding delayAt
+  delayed-back {f} {xs = xs} h c t l = rw (counted h c) (fresh Deinterleaver 12 17 (lit< tt) (lit< tt) f xs t l)
 
   -- a fresh deinterleaver, with its own store and its own cutting, gives the input again, 2,244 late behind f
   pub returned : {f : A} {s s′ d d′ : Stream} {store store′ store₁ store₂ xs ys zs : List A}

@@ -32,7 +32,7 @@ pub echo-differs : (fedOutput Interleaver startRecord (startStore 9) (first-byte
 unfolding startRecord startStore fedOutput fedStore fedRecord slotOf nextOf slotAt offset runOutput runStore runRecord
 echo-differs = (refl, refl)
 
--- a build that tests the lengths of input and output only when it has written the store
+-- a build that tests the store alone before it writes it, and phase and lengths after
 abbrev pub earlyStore : Call ℕ → List ℕ
 earlyStore c = after (startLines (c .store)) (fedStore (c .way) (c .stream) (c .store) (c .input)) (c .store)
 

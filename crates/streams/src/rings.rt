@@ -1,4 +1,5 @@
-// The loops over one ring of a branch machine, for any number of branches. No byte divides, and no byte reads a table.
+// The loops over one ring of a branch machine, for any number of branches. A stretch of a ring divides once, to know its length; no byte
+// within it divides, and none reads a table.
 ghost use mathlib.Core.Path.{_≡_};
 ghost use Prim.Native.Nat.{_+_, _*_, _≤_, _<_};
 ghost use lib.ListN.{length};

@@ -39,11 +39,11 @@ L s = lists.source s
 abbrev pub M : Set → ℕ → ℕ
 M s = lists.target s
 
--- they are the standard's: the carrier formulas for profiles 1 to 4 ..
+-- they are the carrier formulas for profiles 1 to 4 ..
 pub formulas-carrier : (s : Set) → s .profile ≢ 5 → (L s ≡ carrierL (rowsOf s) (s .n) (groupOf s)) × (M s ≡ carrierM (rowsOf s) (s .n) (groupOf s))
 formulas-carrier s ne = let e = ne-eqb (s .profile) 5 ne in (lists.source-carrier s e, lists.target-carrier s e)
 
--- .. and the WCDMA turbo list, and the place in it, for profile 5
+-- .. and for profile 5 the WCDMA turbo list as document 01 describes it (docs/DECISIONS.md, 11), and the place in it
 pub formulas-turbo : (s : Set) → s .profile ≡ 5 → (L s ≡ turboL (s .n)) × (M s ≡ turboM (s .n))
 formulas-turbo s e = let t = eq-eqb (s .profile) 5 e in (lists.source-turbo s t, lists.target-turbo s t)
 
@@ -67,6 +67,10 @@ module _ {A : Type 0} (s : Set) (z : A) (src dst : List A) (e : movedOf s (lengt
   -- .. and input k is at output M(k)
   pub target : (k : ℕ) → k < s .n → getD (interleaved s z src dst) (M s k) z ≡ getD src k z
   target k h = moves.target-of s z src dst e k h
+
+  -- .. N of them
+  pub as-long : length (interleaved s z src dst) ≡ length src
+  as-long = moves.length-interleaved s z src dst e
 
   -- deinterleaving, input t is at output L(t)
   pub source-back : (t : ℕ) → t < s .n → getD (deinterleaved s z src dst) (L s t) z ≡ getD src t z

@@ -1,17 +1,24 @@
 -- Condition 3 of the tender, for the address walks: cut anywhere, with refused calls between, joined, the outcome is that of one call, and of
 -- the closed form. Both walks: that of L along courseL with its lines, that of M along courseM with its own. (The streams' part is in
 -- Stream.antt.) Assumes nothing.
-use Prim.Native.Nat.{ℕ, _+_, _-_}
+use Prim.Native.Nat.{ℕ, min, _+_, _-_}
 use mathlib.Core.List.{List}
+use mathlib.Core.Logic.{_≢_}
 use mathlib.Core.Path.{_≡_}
+use native.Mathlib.Omega.{arith}
 use lib.ListN.{length, take}
-use Rattle.laws.specs.Outcome.{Clear}
+use borrow.Author.Tests.{ne-eqb}
+use Rattle.laws.specs.Outcome.{done, Clear}
+use Rattle.laws.specs.Run.{run}
 use Rattle.laws.specs.Keep.{keep}
 use Rattle.laws.specs.Once.{inside}
 use Rattle.sets.specs.declared.Set.{Set}
+use Rattle.sets.specs.Verdict.{verdictOf}
 use Rattle.walks.specs.declared.Walk.{Walk}
 use Rattle.walks.specs.Course.{Course, courseL, courseM}
 use Rattle.walks.specs.Answer.{walkLines, backLines, walkList, walkCells, walkPadding, walkNext}
+use Rattle.walks.specs.Lists.{source, target}
+use Rattle.walks.specs.Whole.{begin, whole-list, walk-m-is}
 use Rattle.walks.specs.Runs as runs
 use Rattle.walks.specs.Calls.{Call, Handed, joined, ended, examined, rooms, next-accepted-l, next-accepted-m}
 use Rattle.walks.specs.Calls as calls
@@ -44,3 +51,12 @@ walk-list course w room = runs.walk-list course w room
 -- the cells examined are the addresses written and the padding passed, counted by the test on each address from the old cell to the new
 pub cells-are : (course : Set → Course) (w : Walk) (room : ℕ) → walkCells course w room ≡ length (walkList course w room) + walkPadding course w room
 cells-are course w room = runs.cells-are course w room
+
+-- and these are L and M: of an accepted set the whole walk for L writes L(0) to L(N - 1) ..
+pub walk-is-l : (s : Set) → verdictOf s ≡ done tt → walkList courseL (begin s) (s .n) ≡ run (source s) 0 (s .n)
+walk-is-l s e = whole-list s (s .n) e (omega arith)
+
+-- .. and a walk for M, profiles 1 to 4, from cell c on: M(c), M(c + 1), as many as there is room and cells for
+pub walk-is-m : (w : Walk) (room : ℕ) → verdictOf (w .set) ≡ done tt → w .set .profile ≢ 5
+    → walkList courseM w room ≡ run (target (w .set)) (w .cell) (min room (w .set .n - w .cell))
+walk-is-m w room e ne = walk-m-is w room (record { accepted = e; which = ne-eqb (w .set .profile) 5 ne })

@@ -6,7 +6,7 @@ use mathlib.Core.List.{List, _++_, map}
 use mathlib.Core.Path.{_≡_, sym, ap, _∙_}
 use native.Mathlib.Omega.{arith}
 use lib.ListN.{length, getD, replicate, take}
-use Rattle.laws.specs.Outcome.{refused, judged, after}
+use Rattle.laws.specs.Outcome.{done, refused, judged, after}
 use Rattle.laws.specs.Sentences.{FirstTrue}
 use Rattle.delay.specs.declared.Way.{Way}
 use Rattle.delay.specs.declared.Way.the-variants.{Interleaver, Deinterleaver}
@@ -14,7 +14,7 @@ use Rattle.delay.specs.Machine.{slotAt, late, runOutput, runStore}
 use Rattle.delay.specs.Delay.{late-early, late-from}
 use Rattle.streams.specs.declared.Stream.{Stream}
 use Rattle.streams.specs.Dvb.{startRecord, startStore, fedOutput, fedStore, fedRecord}
-use Rattle.streams.specs.Answers.{startLines}
+use Rattle.streams.specs.Answers.{startLines, feedLines}
 use Rattle.streams.specs.Calls.{Fresh, Call, says, storeAfter, outputAfter, Calls}
 use Rattle.streams.specs.Phase.{phaseOf, output-phase, store-phase}
 use Rattle.streams.specs.Condition3 as condition3
@@ -23,7 +23,8 @@ use Rattle.streams.specs.Refusals.{startSentences, feedSentences}
 use Rattle.streams.specs.Refusals as refusals
 
 module _ {A : Type 0} where
-  -- condition 3: any calls, cut anywhere, with refused ones between, are one run over the joined input: its output, its record, its store
+  -- condition 3: any calls, cut anywhere, with refused feeds between (of either way, with any record, lent any part of the store; that a refused
+  -- start changes nothing is refused-alone-start), are one run over the joined input: its output, its record, its store
   pub one-run : {way : Way} {s s′ : Stream} {store xs ys store′ : List A} → Calls way s store xs ys s′ store′
       → (ys ≡ fedOutput way s store xs) × (s′ ≡ fedRecord s xs) × (store′ ≡ fedStore way s store xs)
   one-run calls = let r = condition3.one-run calls in (r .output, r .next, r .stored)
@@ -36,24 +37,38 @@ module _ {A : Type 0} where
       let r = condition3.one-run calls in
       (cc (r .output, b .0, b .1), condition3.last-record fresh calls, cc (r .stored, b .0, b .1))
 
+  -- a byte that is d late: f, or the byte d before
+  by-delay : (f : A) (d : ℕ) (xs : List A) (t : ℕ) {y : A} → y ≡ late f d (λ n. getD xs n f) t
+      → (t < d → y ≡ f) × (d ≤ t → y ≡ getD xs (t - d) f)
+  by-delay f d xs t e = (
+    λ early. e ∙ late-early f d (λ n. getD xs n f) t early,
+    λ there.
+        let k : t - d + d ≡ t = omega (arith, there) in
+        e ∙ sym (ap (late f d (λ n. getD xs n f)) k) ∙ late-from f d (λ n. getD xs n f) (t - d),
+  )
+
   -- after a start with f, output t is input t - 204·(t mod 12), or f where there is no such byte
   pub delayed : {f : A} {s s′ : Stream} {store xs ys store′ : List A} → Fresh f s store → Calls Interleaver s store xs ys s′ store′
       → (t : ℕ) → t < length xs
       → (t < 204 * (t % 12) → getD ys t f ≡ f) × (204 * (t % 12) ≤ t → getD ys t f ≡ getD xs (t - 204 * (t % 12)) f)
-  delayed {f} {xs = xs} fresh calls t h =
-      let e = condition3.delayed fresh calls t h in
-      let d = 204 * (t % 12) in (
-        λ early. e ∙ late-early f d (λ n. getD xs n f) t early,
-        λ there.
-            let k : t - d + d ≡ t = omega (arith, there) in
-            e ∙ sym (ap (late f d (λ n. getD xs n f)) k) ∙ late-from f d (λ n. getD xs n f) (t - d),
-      )
+  delayed {f} {xs = xs} fresh calls t h = by-delay f (204 * (t % 12)) xs t (condition3.delayed fresh calls t h)
+
+  -- of a deinterleaver, whatever it is fed: output t is input t - 204·(11 - t mod 12), or f
+  pub delayed-back : {f : A} {s s′ : Stream} {store xs ys store′ : List A} → Fresh f s store → Calls Deinterleaver s store xs ys s′ store′
+      → (t : ℕ) → t < length xs
+      → (t < 204 * (11 - t % 12) → getD ys t f ≡ f) × (204 * (11 - t % 12) ≤ t → getD ys t f ≡ getD xs (t - 204 * (11 - t % 12)) f)
+  delayed-back {f} {xs = xs} fresh calls t h = by-delay f (204 * (11 - t % 12)) xs t (condition3.delayed-back fresh calls t h)
 
   -- a fresh deinterleaver, with its own store and its own cutting, gives the input again, 2,244 bytes late behind f
   pub returned : {f : A} {s s′ d d′ : Stream} {store store′ store₁ store₂ xs ys zs : List A}
       → Fresh f s store → Calls Interleaver s store xs ys s′ store′ → Fresh f d store₁ → Calls Deinterleaver d store₁ ys zs d′ store₂
       → zs ≡ take (length xs) (replicate 2244 f ++ xs)
   returned fresh calls again back = condition3.returned fresh calls again back
+
+  -- and a record and a store that calls hand on are accepted again: the next call is refused only where its lengths differ
+  pub goes-on : {way : Way} {f : A} {s s′ : Stream} {store xs ys store′ : List A} → Fresh f s store → Calls way s store xs ys s′ store′
+      → (input out : List A) → length out ≡ length input → judged (λ k. k) (feedLines s′ store′ input out) (fedRecord s′ input) ≡ done (fedRecord s′ input)
+  goes-on fresh calls input out e = condition3.goes-on fresh calls input out e
 
   -- the wrap of the phase at 5,654,880 changes nothing: a feed from byte t is the machine that counts t without end
   pub wrap : (way : Way) (t : ℕ) (store input : List A)

@@ -1,23 +1,30 @@
--- A walk for L from cell 0: its lines are those of the set's plan, and with room for N it writes L, at 0 to N - 1. Assumes nothing.
-use Prim.Native.Nat.{ℕ, _-_, _≤_, _<_}
+-- A walk for L from cell 0: its lines are those of the set's plan, and with room for N it writes L, at 0 to N - 1. A walk for M writes M.
+-- Assumes nothing.
+use Prim.Native.Nat.{ℕ, min, _-_, _≤_, _<_}
+use mathlib.Core.Bool.{false}
 use mathlib.Core.List.{List, [], _∷_, _++_}
 use mathlib.Core.Path.{_≡_, refl, ap, _∙_}
 use native.Mathlib.Nat.{sub-zero}
 use native.Mathlib.Omega.{arith}
 use lib.ListN.{length, take, drop}
 use lib.Seq.{take-all}
-use borrow.Author.Tests.{le-ltb}
+use borrow.Author.Tests.{le-ltb, lt-ltb}
 use Rattle.laws.specs.Outcome.{done, line, Ruling, clear, stopped, first, settle, first-join, clear-front, first-clear, clear-done}
 use Rattle.laws.specs.Run.{run, length-run}
 use Rattle.laws.specs.Keep.{keep}
+use Rattle.laws.specs.Bare.{wrote-bare}
 use Rattle.laws.specs.Loop.{by, by-run}
 use Rattle.laws.specs.Once.{inside}
 use Rattle.sets.specs.declared.Set.{Set}
 use Rattle.sets.specs.Verdict.{setLines, refusal, verdictOf}
 use Rattle.walks.specs.declared.Walk.{Walk}
-use Rattle.walks.specs.Course.{courseL, givesUp}
+use Rattle.sets.specs.Profiles.{rowsOf, groupOf}
+use Rattle.carrier.specs.Formula.{carrierM}
+use Rattle.walks.specs.Course.{courseL, courseM, givesUp}
 use Rattle.walks.specs.Answer.{planLines, cellLine, walkLines, walkList, walkSlice}
-use Rattle.walks.specs.Lists.{source, listL, list-is}
+use Rattle.walks.specs.Passed.{Taken, course-back}
+use Rattle.walks.specs.ByCarrier.{carrier-perm}
+use Rattle.walks.specs.Lists.{source, target, target-carrier, listL, list-is}
 use Rattle.walks.specs.Runs.{walk-list}
 
 -- the record at the beginning
@@ -50,3 +57,11 @@ unfolding walkSlice
 table-is s old e h t l =
     by-run (source s) (s .n) (walkSlice courseL (begin s) old) (drop (length (walkList courseL (begin s) (length old))) old)
     (ap (λ (x : List ℕ). x ++ drop (length (walkList courseL (begin s) (length old))) old) (whole-list s (length old) e h)) t l
+
+-- a walk for M of an accepted carrier set, from any cell, with any room: M there, and so on
+pub walk-m-is : (w : Walk) (room : ℕ) → Taken (w .set) false → walkList courseM w room ≡ run (target (w .set)) (w .cell) (min room (w .set .n - w .cell))
+unfolding walkList
+walk-m-is w room t =
+    rw (course-back (w .set), target-carrier (w .set) (t .which))
+    (wrote-bare (carrierM (rowsOf (w .set)) (w .set .n) (groupOf (w .set))) (inside (w .set .n)) (w .cell) (w .set .n - w .cell) room
+    (λ x l h. lt-ltb _ _ (carrier-perm t .m-below x (omega arith))))

@@ -1,4 +1,4 @@
--- A wrong build that no edit of the code gives, as a definition, and where it differs: one that clears the rest of the slice. Both sides are
+-- A wrong build that no edit gives without the proof losing its shape, as a definition, and where it differs: one that clears the rest of the slice. Both sides are
 -- computed. Assumes nothing.
 use Prim.Native.Nat.{ℕ, _-_}
 use mathlib.Core.Bool.{cond}

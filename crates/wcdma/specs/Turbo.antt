@@ -1,4 +1,4 @@
--- The WCDMA turbo interleaver, 3GPP TS 25.212 4.2.3.2.3: the address of each cell of the rectangle, and the lists L and M of a block of K
+-- The WCDMA turbo interleaver, 3GPP TS 25.212 4.2.3.2.3, as document 01 describes it (docs/DECISIONS.md, 11): the address of each cell of the rectangle, and the lists L and M of a block of K
 -- symbols. Rests on the plan. Assumes nothing: these are definitions.
 use Prim.Native.Nat.{ℕ, _+_, _*_, _-_, _/_, _%_}
 use mathlib.Core.Bool.{cond}

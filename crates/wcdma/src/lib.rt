@@ -9,7 +9,6 @@ ghost use lib.ListN.{length};
 ghost use Rattle.laws.specs.Outcome.{judged, after};
 ghost use Rattle.laws.specs.Position.{position};
 ghost use Rattle.wcdma_plan.specs.Rectangle.{Size, cells};
-ghost use Rattle.wcdma_plan.specs.Numbers.{searchFails};
 ghost use Rattle.wcdma.specs.Turbo.{turboL, turboM};
 ghost use Rattle.wcdma.specs.Answers.{searchLines, walkCounts, walkSlice, sayWalk, sayOne};
 ghost use Rattle.wcdma.specs.Post.{WalkIn, OneIn, SearchIn, SearchOf, ByIn, WentOf};
@@ -52,16 +51,6 @@ fn search(shape: Shape, q: &mut [u32; 20]) -> bool
 {
     let m = (shape.p - 1) as u32;
     wcdma_plan::find_numbers(m, shape.r, q)
-}
-
-// Whether the search for q gives up, which is refusal 8.
-pub fn search_fails(k: usize) -> bool
-    requires { ⌜ Size k ⌝ }
-    ensures { λ r. ⌜ r ≡ searchFails k ⌝ }
-{
-    let shape = wcdma_plan::shape_of(k);
-    let mut q = [0u32; 20];
-    !search(shape, &mut q)
 }
 
 // R * C, the cells of a block.

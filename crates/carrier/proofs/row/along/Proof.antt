@@ -4,24 +4,15 @@ use mathlib.Core.Path.{refl}
 use native.Mathlib.Omega.{arith}
 use Rattle.laws.specs.Lanes.{going-all}
 use Rattle.laws.specs.Sized.{group-le}
-use Rattle.carrier.specs.Along.{Along, along-first, address-small, along-step, along-next, top-fits}
+use Rattle.carrier.specs.Along.{Along, along-first, address-small, along-step, along-next}
 use Rattle.carrier.proofs.row.along.Statement.{statement}
 use Rattle.carrier.proofs.row.along.Tie as tie
 
 abbrev Inv-loop : tie.InvT-loop
-Inv-loop d n s row col out₀ from stop top group at₀ i₀ out at i = Along d n s row col from stop out₀ out at i
+Inv-loop d n s top group row col out₀ from stop at₀ i₀ out at i = Along d n s row col from stop out₀ out at i
 
 abbrev μ-loop : tie.MeasureT-loop
-μ-loop d n s row col out₀ from stop top group at₀ i₀ out at i = stop - i
-
-sub-top : tie.Need-sub-top Inv-loop μ-loop
-sub-top c = c .before .pre .size .s-pos
-
-mul-top : tie.Need-mul-top Inv-loop μ-loop
-mul-top c = let z = c .before .pre in omega (arith, top-fits (z .size), z .small)
-
-mul-group : tie.Need-mul-group Inv-loop μ-loop
-mul-group c = let z = c .before .pre in omega (arith, group-le (z .size), z .small)
+μ-loop d n s top group row col out₀ from stop at₀ i₀ out at i = stop - i
 
 loop-holds : tie.Need-loop-holds Inv-loop μ-loop
 loop-holds c = along-first (c .before .pre)
@@ -39,7 +30,7 @@ slice-write-out : tie.Need-slice-write-out Inv-loop μ-loop
 slice-write-out c = omega (arith, c .before .before .before .before .pre .part .room, c .before .before .loop .inv .long, c .before .loop-test .taken)
 
 next-requires : tie.Need-next-requires Inv-loop μ-loop
-next-requires c κs = along-step (c .before .before .before .before .pre) (c .before .before .loop .inv) (c .before .loop-test .taken) _ _ refl refl
+next-requires c κs = along-step (c .before .before .before .before .pre) (c .before .before .loop .inv) (c .before .loop-test .taken)
 
 add-i : tie.Need-add-i Inv-loop μ-loop
 add-i c = omega (arith, c .before .before .loop-test .taken)
@@ -64,9 +55,6 @@ along-spec =
     (tie.spec
     Inv-loop
     μ-loop
-    sub-top
-    mul-top
-    mul-group
     loop-holds
     address-requires
     cast-out

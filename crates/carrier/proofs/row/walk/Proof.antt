@@ -3,17 +3,17 @@ use Prim.Native.Nat.{_-_}
 use mathlib.Core.Path.{refl}
 use native.Mathlib.Nat.{mod-lt, div-le-self}
 use native.Mathlib.Omega.{arith}
-use Rattle.laws.specs.Sized.{row-pos, d-le}
+use Rattle.laws.specs.Sized.{row-pos, d-le, group-le}
 use Rattle.laws.specs.Lanes.{lanes-first, part, lanes-next, lanes-all}
 use Rattle.carrier.specs.Along.{Rows, cell-is, set-up, rows-whole, lift-small, top-fits}
 use Rattle.carrier.proofs.row.walk.Statement.{statement}
 use Rattle.carrier.proofs.row.walk.Tie as tie
 
 abbrev Inv-loop : tie.InvT-loop
-Inv-loop d n s cell out₀ c top count row₀ col₀ at₀ i₀ out row col at i = Rows d n s cell count out₀ out row col at i
+Inv-loop d n s cell out₀ c top group count row₀ col₀ at₀ i₀ out row col at i = Rows d n s cell count out₀ out row col at i
 
 abbrev μ-loop : tie.MeasureT-loop
-μ-loop d n s cell out₀ c top count row₀ col₀ at₀ i₀ out row col at i = count - i
+μ-loop d n s cell out₀ c top group count row₀ col₀ at₀ i₀ out row col at i = count - i
 
 div-c : tie.Need-div-c Inv-loop μ-loop
 div-c c = c .before .pre .size .d-pos
@@ -23,6 +23,9 @@ sub-top c = c .before .pre .size .s-pos
 
 mul-top : tie.Need-mul-top Inv-loop μ-loop
 mul-top c = omega (arith, top-fits (c .before .pre .size), c .before .pre .small)
+
+mul-group : tie.Need-mul-group Inv-loop μ-loop
+mul-group c = omega (arith, group-le (c .before .pre .size), c .before .pre .small)
 
 sub-least : tie.Need-sub-least Inv-loop μ-loop
 sub-least c = c .before .pre .cell-in
@@ -60,6 +63,8 @@ along-requires c κs =
     record {
       size = b .size;
       small = b .small;
+      top-is = refl;
+      group-is = refl;
       spot = l .before .loop .inv .state (l .loop-test .taken);
       part = part (l .before .loop .inv) (l .loop-test .taken) (c .before .least2 .ensures) (rows-whole (b .size)) (l .before .before .before .least .ensures);
     }
@@ -106,6 +111,7 @@ walk-spec =
     div-c
     sub-top
     mul-top
+    mul-group
     sub-least
     least-requires
     div-row
