@@ -3,3 +3,4 @@ pub mod Condition2
 pub mod Condition3
 pub mod Turbo
 pub mod Stream
+pub mod Stars

@@ -1,0 +1,134 @@
+-- The starred cases of document 01, "Checked by hand", in one proved table, over the definitions that the public contracts cite. A row says a
+-- question, a set, an argument and the numbers that 01 expects. `refl` at its end: the definitions compute to those numbers. Assumes nothing.
+use Prim.Native.Nat.{ℕ, _-_, _≤_}
+use mathlib.Core.Bool.{cond}
+use mathlib.Core.List.{List, [], _∷_}
+use mathlib.Core.Path.{_≡_, refl, ap}
+use native.Mathlib.Omega.{arith}
+use lib.ListN.{length, take, drop}
+use Rattle.laws.specs.Keep.{keep, padding}
+use Rattle.laws.specs.Members.{All}
+use Rattle.laws.specs.Once.{inside}
+use Rattle.sets.specs.declared.Set.{Set}
+use Rattle.sets.specs.Profiles.{rowsOf, groupOf}
+use Rattle.carrier.specs.Formula.{firstStep, secondStep, carrierM, backStep, lastStep, carrierL}
+use Rattle.wcdma_plan.specs.Rectangle.{rows, primes, firstPrime, prime, colsOf, cols, cells}
+use Rattle.wcdma_plan.specs.Powers.{power, firstOne, generates, rootFrom, root}
+use Rattle.wcdma_plan.specs.Numbers.{gcdIn, gcd, noDivisor, isPrime, passes, nextIn, nextQ, qOf}
+use Rattle.wcdma_plan.specs.Orders.{rowOrders, whichOrder, orderOf, rowAt}
+use Rattle.wcdma.specs.Turbo.{entry, address, padCells}
+use Rattle.wcdma.specs.Pads.{cells-are}
+use Rattle.walks.specs.Course.{courseL}
+use Rattle.walks.specs.Lists.{source, target, listL}
+
+-- what 01 asks of a set. Some questions have an argument x, said here; for the others it is 0 and not read
+pub data Question : Type 0 where
+  M : Question  -- M(x)
+  L : Question  -- L(x)
+  R : Question  -- R
+  p : Question  -- p
+  C : Question  -- C
+  total : Question  -- the cells
+  padded : Question  -- how many of them are padding
+  begins : Question  -- the first x of L
+  ends : Question  -- the last x of L
+  give : Question  -- the first x cells: their addresses but the padding
+  pads : Question  -- whether cell x is padding, 1 or 0; cells are counted from 0
+
+-- the answer of the definitions
+unfoldable pub answer : Question → Set → ℕ → List ℕ
+answer M s x = target s x ∷ []
+answer L s x = source s x ∷ []
+answer R s x = rows (s .n) ∷ []
+answer p s x = prime (s .n) ∷ []
+answer C s x = cols (s .n) ∷ []
+answer total s x = courseL s .total ∷ []
+answer padded s x = padCells (s .n) ∷ []
+answer begins s x = take x (listL s)
+answer ends s x = drop (length (listL s) - x) (listL s)
+answer give s x = keep (courseL s .address) (inside (s .n)) 0 x
+answer pads s x = cond (inside (s .n) (courseL s .address x)) 0 1 ∷ []
+
+-- a row has its proof with it: where the definitions answer something else, the row is refused, and the table with it
+pub record Row : Type 0 where
+  pub question : Question
+  pub set : Set
+  pub argument : ℕ
+  pub expected : List ℕ
+  pub holds : answer question set argument ≡ expected
+
+abbrev pub row : (q : Question) (s : Set) (x : ℕ) (e : List ℕ) → answer q s x ≡ e → Row
+row q s x e h = record { question = q; set = s; argument = x; expected = e; holds = h }
+
+-- a set of profile 3, 4 or 5; b: bits, n: N, k: K
+abbrev pub wlan : ℕ → ℕ → Set
+wlan b n = record { profile = 3; bits = b; n = n }
+
+abbrev pub bench : ℕ → ℕ → Set
+bench b n = record { profile = 4; bits = b; n = n }
+
+abbrev pub turbo : ℕ → Set
+turbo k = record { profile = 5; bits = 1; n = k }
+
+-- the padding by cells = K + padding, for a K with too many cells to count them one by one here
+pub counted : (k : ℕ) → k ≤ 5114 → answer padded (turbo k) 0 ≡ (cells k - k) ∷ []
+unfolding answer
+counted k h = let e : padCells k ≡ cells k - k = omega (arith, cells-are k h) in ap (λ (x : ℕ). x ∷ []) e
+
+-- the table, in 01's order
+unfoldable pub stars : List Row
+unfolding answer padCells padding source target listL courseL keep rowsOf groupOf firstStep secondStep carrierM backStep lastStep carrierL rows primes firstPrime prime colsOf cols cells power firstOne generates rootFrom root gcdIn gcd noDivisor isPrime passes nextIn nextQ qOf rowOrders whichOrder orderOf rowAt entry address
+stars =
+    -- Profile 3, bits 4, N 192: M of 0, 1, 16, 17, 191
+    row M (wlan 4 192) 0 (0 ∷ []) refl
+    ∷ row M (wlan 4 192) 1 (13 ∷ []) refl
+    ∷ row M (wlan 4 192) 16 (1 ∷ []) refl
+    ∷ row M (wlan 4 192) 17 (12 ∷ []) refl
+    ∷ row M (wlan 4 192) 191 (190 ∷ []) refl
+    -- Profile 3, bits 6, N 288: M of 1, 2, 3, 287
+    ∷ row M (wlan 6 288) 1 (20 ∷ []) refl
+    ∷ row M (wlan 6 288) 2 (37 ∷ []) refl
+    ∷ row M (wlan 6 288) 3 (54 ∷ []) refl
+    ∷ row M (wlan 6 288) 287 (287 ∷ []) refl
+    -- Profile 4, bits 4, N 64: L of 4, 5, 6, 7
+    ∷ row L (bench 4 64) 4 (17 ∷ []) refl
+    ∷ row L (bench 4 64) 5 (1 ∷ []) refl
+    ∷ row L (bench 4 64) 6 (49 ∷ []) refl
+    ∷ row L (bench 4 64) 7 (33 ∷ []) refl
+    -- Bits 6, N 96: L(6)
+    ∷ row L (bench 6 96) 6 (17 ∷ []) refl
+    -- K 40: R, p, C; L begins .. and ends ..
+    ∷ row R (turbo 40) 0 (5 ∷ []) refl
+    ∷ row p (turbo 40) 0 (7 ∷ []) refl
+    ∷ row C (turbo 40) 0 (8 ∷ []) refl
+    ∷ row begins (turbo 40) 10 (33 ∷ 25 ∷ 17 ∷ 9 ∷ 1 ∷ 35 ∷ 27 ∷ 21 ∷ 11 ∷ 5 ∷ []) refl
+    ∷ row ends (turbo 40) 5 (39 ∷ 31 ∷ 23 ∷ 15 ∷ 7 ∷ []) refl
+    -- K 41: C, padding cells; ten cells give ..; the sixth cell, cell 5, is padding
+    ∷ row C (turbo 41) 0 (10 ∷ []) refl
+    ∷ row padded (turbo 41) 0 (9 ∷ []) refl
+    ∷ row give (turbo 41) 10 (40 ∷ 30 ∷ 20 ∷ 10 ∷ 0 ∷ 36 ∷ 21 ∷ 17 ∷ 6 ∷ []) refl
+    ∷ row pads (turbo 41) 5 (1 ∷ []) refl
+    -- K 159: cells
+    ∷ row total (turbo 159) 0 (160 ∷ []) refl
+    -- K 160: R, C
+    ∷ row R (turbo 160) 0 (10 ∷ []) refl
+    ∷ row C (turbo 160) 0 (16 ∷ []) refl
+    -- K 201: R, C, padding
+    ∷ row R (turbo 201) 0 (20 ∷ []) refl
+    ∷ row C (turbo 201) 0 (11 ∷ []) refl
+    ∷ row padded (turbo 201) 0 (19 ∷ []) refl
+    -- K 481: cells
+    ∷ row total (turbo 481) 0 (530 ∷ []) refl
+    -- K 5,114: p, C, padding
+    ∷ row p (turbo 5114) 0 (257 ∷ []) refl
+    ∷ row C (turbo 5114) 0 (256 ∷ []) refl
+    ∷ row padded (turbo 5114) 0 (6 ∷ []) (counted 5114 (omega arith))
+    ∷ []
+
+-- every row holds
+pub stars-hold : All (λ r. answer (r .question) (r .set) (r .argument) ≡ r .expected) stars
+stars-hold = each stars
+  where
+    each : (rs : List Row) → All (λ r. answer (r .question) (r .set) (r .argument) ≡ r .expected) rs
+    each [] = tt
+    each (r ∷ rs) = (r .holds, each rs)
