@@ -1,14 +1,12 @@
 // The cases of document 01 that no proved table states, and some refusals, by the public calls: each is printed with its outcome.
 mod looks;
+mod nothing;
 mod words;
 
 use blocks::Moved;
 use looks::MARK;
 use sets::Set;
 use sets::Verdict;
-use streams::Fed;
-use streams::Started;
-use streams::Stream;
 use walks::Found;
 use walks::Walk;
 use walks::Walked;
@@ -206,71 +204,6 @@ fn show_soft() {
     tell_soft(true, set, k, looks::differing_bits(&input, &back));
 }
 
-fn feed_either(back: bool, s: Stream, store: &mut [u8; 1122], input: &[u8], out: &mut [u8]) -> Fed {
-    if back {
-        return streams::deinterleave(s, store, input, out);
-    }
-    streams::interleave(s, store, input, out)
-}
-
-// The record that a start gives; out of its range where it is refused.
-fn begun(store: &mut [u8; 1122], f: u8) -> Stream {
-    let a = streams::start(store, f);
-    match a {
-        Started::Ready(s) => s,
-        Started::Refused(_) => Stream { phase: 9999999 },
-    }
-}
-
-// The record that a feed gives; out of its range where it is refused.
-fn record(a: Fed) -> Stream {
-    match a {
-        Fed::Next(s) => s,
-        Fed::Refused(_) => Stream { phase: 9999999 },
-    }
-}
-
-fn tell_fed(back: bool, a: Fed, s: Stream, bytes: u64, changed: u64) {
-    words::either(back, b"interleaver", b"deinterleaver");
-    words::text(b", feed of nothing into nothing");
-    match a {
-        Fed::Refused(k) => words::number(b": refused ", k as u64),
-        Fed::Next(next) => {
-            words::number(b": done, phase ", s.phase as u64);
-            words::number(b" moved to ", next.phase as u64);
-        }
-    }
-    words::number(b", ", bytes);
-    words::last(b" bytes; store bytes changed ", changed);
-}
-
-// A feed of nothing, after a start and a feed of the input.
-fn feed_nothing(back: bool, input: &[u8], out: &mut [u8]) {
-    let nothing = [0u8; 0];
-    let mut nowhere = [0u8; 0];
-    let mut store = [0u8; 1122];
-    let s = begun(&mut store, 165);
-    let t = record(feed_either(back, s, &mut store, input, out));
-    let before = store;
-    let a = feed_either(back, t, &mut store, &nothing, &mut nowhere);
-    tell_fed(
-        back,
-        a,
-        t,
-        nothing.len() as u64,
-        looks::differing(&before, &store),
-    );
-}
-
-fn feeds(back: bool) {
-    let none = [7u8; 0];
-    let some = [7u8; 14];
-    let mut a = [0u8; 0];
-    let mut b = [0u8; 14];
-    feed_nothing(back, &none, &mut a);
-    feed_nothing(back, &some, &mut b);
-}
-
 fn main() {
     tests();
     show_walks();
@@ -278,6 +211,6 @@ fn main() {
     show_blocks(false);
     show_blocks(true);
     show_soft();
-    feeds(false);
-    feeds(true);
+    nothing::feeds(false);
+    nothing::feeds(true);
 }
