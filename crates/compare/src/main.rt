@@ -3,12 +3,12 @@
 mod count;
 mod moves;
 mod num;
+mod primes;
 mod second;
 mod slices;
 mod turbo;
 
 use count::Count;
-use libc::STDOUT_FILENO;
 use num::sum;
 use sets::Set;
 use sets::Verdict;

@@ -1,4 +1,4 @@
-// The grid of profile 5 from document 01: R, p, C, v, S, q and T, by repeated multiplication and trial division, and a cell's address.
+// The grid of profile 5 from document 01: R, p, C, S, q and T, and a cell's address.
 use crate::num::at;
 use crate::num::minus;
 use crate::num::over;
@@ -7,6 +7,9 @@ use crate::num::put;
 use crate::num::rest;
 use crate::num::times;
 use crate::num::wide;
+use crate::primes::next_q;
+use crate::primes::prime;
+use crate::primes::root;
 
 // In the table S stands at 0, q at Q and T at T.
 const Q: usize = 300;
@@ -81,17 +84,6 @@ fn rows(k: usize) -> usize {
     20
 }
 
-fn prime(x: usize) -> bool {
-    let mut f = 2;
-    while f < x {
-        if rest(x, f) == 0 {
-            return false;
-        }
-        f += 1;
-    }
-    true
-}
-
 // p: the least prime from 7 on with K ≤ R·(p + 1); 53 for K 481 to 530.
 fn prime_of(k: usize, r: usize) -> usize {
     if r == 10 {
@@ -126,32 +118,6 @@ fn columns(k: usize, r: usize, p: usize) -> usize {
     plus(p, 1)
 }
 
-// The least e above 0 with v^e = 1 modulo p.
-fn order(v: usize, p: usize) -> usize {
-    let mut x = v;
-    let mut e = 1;
-    while e < p {
-        if x == 1 {
-            return e;
-        }
-        x = rest(times(x, v), p);
-        e += 1;
-    }
-    e
-}
-
-// The least primitive root of p.
-fn root(p: usize) -> usize {
-    let mut v = 2;
-    while v < p {
-        if order(v, p) == minus(p, 1) {
-            return v;
-        }
-        v += 1;
-    }
-    v
-}
-
 fn powers(p: usize, table: &mut [u16]) {
     let v = root(p);
     let last = minus(p, 1);
@@ -162,32 +128,6 @@ fn powers(p: usize, table: &mut [u16]) {
         y = rest(times(v, y), p);
         x += 1;
     }
-}
-
-// The greatest common divisor, by trial from a down.
-fn common(a: usize, b: usize) -> usize {
-    let mut f = a;
-    while 1 < f {
-        if plus(rest(a, f), rest(b, f)) == 0 {
-            return f;
-        }
-        f -= 1;
-    }
-    1
-}
-
-// The least prime above 6 and above the last q with no divisor in common with p - 1.
-fn next_q(last: usize, p: usize) -> usize {
-    let mut q = if last < 6 { 7 } else { plus(last, 1) };
-    while q < 300 {
-        if prime(q) {
-            if common(q, minus(p, 1)) == 1 {
-                return q;
-            }
-        }
-        q += 1;
-    }
-    q
 }
 
 fn steps(r: usize, p: usize, table: &mut [u16]) {

@@ -1,8 +1,8 @@
 -- The exponent rises. Assumes nothing.
 use Prim.Native.Nat.{_≤_, _-_}
 use borrow.Author.Needs.{needs}
-use Rattle.compare.proofs.turbo.order.Statement.{statement}
-use Rattle.compare.proofs.turbo.order.Tie as tie
+use Rattle.compare.proofs.primes.order.Statement.{statement}
+use Rattle.compare.proofs.primes.order.Tie as tie
 
 abbrev Inv-loop : tie.InvT-loop
 Inv-loop v p x₀ e₀ x e = 1 ≤ e

@@ -1,8 +1,8 @@
 -- The candidate rises. Assumes nothing.
 use Prim.Native.Nat.{_-_}
 use borrow.Author.Needs.{needs}
-use Rattle.compare.proofs.turbo.next_q.Statement.{statement}
-use Rattle.compare.proofs.turbo.next_q.Tie as tie
+use Rattle.compare.proofs.primes.next_q.Statement.{statement}
+use Rattle.compare.proofs.primes.next_q.Tie as tie
 
 abbrev Inv-loop : tie.InvT-loop
 Inv-loop last p q₀ q = Unit

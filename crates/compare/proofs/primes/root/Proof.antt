@@ -1,8 +1,8 @@
 -- The candidate rises. Assumes nothing.
 use Prim.Native.Nat.{_≤_, _-_}
 use borrow.Author.Needs.{needs}
-use Rattle.compare.proofs.turbo.root.Statement.{statement}
-use Rattle.compare.proofs.turbo.root.Tie as tie
+use Rattle.compare.proofs.primes.root.Statement.{statement}
+use Rattle.compare.proofs.primes.root.Tie as tie
 
 abbrev Inv-loop : tie.InvT-loop
 Inv-loop p v₀ v = 2 ≤ v
