@@ -36,13 +36,12 @@ impl Count {
 
     // Differences alone.
     pub fn wrong(n: u64) -> Self {
-        let c = Count::none();
         Count {
-            sets: c.sets,
-            calls: c.calls,
-            addresses: c.addresses,
-            cells: c.cells,
-            padding: c.padding,
+            sets: 0,
+            calls: 0,
+            addresses: 0,
+            cells: 0,
+            padding: 0,
             differences: n,
         }
     }
