@@ -1,0 +1,52 @@
+-- Every index is in range. Assumes nothing.
+use Prim.Native.Nat.{_≤_, _-_}
+use mathlib.Core.Path.{_≡_}
+use lib.ListN.{length}
+use borrow.Author.Needs.{needs}
+use Rattle.compare.proofs.moves.samples.Statement.{statement}
+use Rattle.compare.proofs.moves.samples.Tie as tie
+
+abbrev Inv-loop : tie.InvT-loop
+Inv-loop high src₀ t₀ src t = (t ≤ length src₀) × (length src ≡ length src₀)
+
+abbrev μ-loop : tie.MeasureT-loop
+μ-loop high src₀ t₀ src t = length src₀ - t
+
+loop-holds : tie.Need-loop-holds Inv-loop μ-loop
+loop-holds c = search needs
+
+sample-requires : tie.Need-sample-requires Inv-loop μ-loop
+sample-requires c κs = search needs
+
+slice-write-src : tie.Need-slice-write-src Inv-loop μ-loop
+slice-write-src c = search needs
+
+add-t : tie.Need-add-t Inv-loop μ-loop
+add-t c = search needs
+
+loop-less : tie.Need-loop-less Inv-loop μ-loop
+loop-less c = search needs
+
+loop-again : tie.Need-loop-again Inv-loop μ-loop
+loop-again c = search needs
+
+same-length : tie.Need-same-length Inv-loop μ-loop
+same-length c = search needs
+
+returns : tie.Need-returns Inv-loop μ-loop
+returns c = search needs
+
+pub samples-spec : {M : Type 1} → statement M
+samples-spec =
+    tie.close
+    (tie.spec
+    Inv-loop
+    μ-loop
+    loop-holds
+    sample-requires
+    slice-write-src
+    add-t
+    loop-less
+    loop-again
+    same-length
+    returns)

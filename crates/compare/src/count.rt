@@ -1,0 +1,80 @@
+// What was compared, and what differed.
+use crate::num::sum;
+use libc::STDOUT_FILENO;
+
+pub struct Count {
+    pub sets: u64,
+    pub calls: u64,
+    pub addresses: u64,
+    pub cells: u64,
+    pub padding: u64,
+    pub differences: u64,
+}
+
+impl Count {
+    pub fn none() -> Self {
+        Count {
+            sets: 0,
+            calls: 0,
+            addresses: 0,
+            cells: 0,
+            padding: 0,
+            differences: 0,
+        }
+    }
+
+    pub fn with(self, more: Count) -> Self {
+        Count {
+            sets: sum(self.sets, more.sets),
+            calls: sum(self.calls, more.calls),
+            addresses: sum(self.addresses, more.addresses),
+            cells: sum(self.cells, more.cells),
+            padding: sum(self.padding, more.padding),
+            differences: sum(self.differences, more.differences),
+        }
+    }
+
+    // Differences alone.
+    pub fn wrong(n: u64) -> Self {
+        Count {
+            sets: 0,
+            calls: 0,
+            addresses: 0,
+            cells: 0,
+            padding: 0,
+            differences: n,
+        }
+    }
+}
+
+fn number(text: &[u8], n: u64) {
+    io::write_all(STDOUT_FILENO, text);
+    io::print_decimal(STDOUT_FILENO, n);
+}
+
+// A line for walks.
+pub fn walks_line(title: &[u8], c: Count) {
+    io::write_all(STDOUT_FILENO, title);
+    number(b": sets ", c.sets);
+    number(b" calls ", c.calls);
+    number(b" addresses ", c.addresses);
+    number(b" cells ", c.cells);
+    number(b" padding ", c.padding);
+    number(b" differences ", c.differences);
+    io::write_all(STDOUT_FILENO, b"\n");
+}
+
+// A line for blocks and single addresses, which have no cells.
+pub fn short_line(title: &[u8], c: Count) {
+    io::write_all(STDOUT_FILENO, title);
+    number(b": sets ", c.sets);
+    number(b" calls ", c.calls);
+    number(b" addresses ", c.addresses);
+    number(b" differences ", c.differences);
+    io::write_all(STDOUT_FILENO, b"\n");
+}
+
+pub fn last_line(n: u64) {
+    number(b"differences ", n);
+    io::write_all(STDOUT_FILENO, b"\n");
+}

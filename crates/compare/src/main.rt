@@ -1,0 +1,188 @@
+// Compares every whole list with a second computation of it, which divides at each address and shares no function with the walk: all sets
+// of profiles 1 to 4 and every K, whole and in slices; and for a dozen sets shorter slices, blocks of bytes and single addresses.
+mod count;
+mod moves;
+mod num;
+mod primes;
+mod second;
+mod slices;
+mod turbo;
+
+use count::Count;
+use num::sum;
+use sets::Set;
+use sets::Verdict;
+
+// The i-th of all profiles 1 to 4, bits 1 to 6, sizes 1 to 1,536: 36,864, most of them refused.
+fn carrier_at(i: u32) -> Set {
+    Set {
+        profile: i / 9216 % 4 + 1,
+        bits: i / 1536 % 6 + 1,
+        n: i % 1536 + 1,
+    }
+}
+
+fn turbo_set(k: u32) -> Set {
+    Set {
+        profile: 5,
+        bits: 1,
+        n: k,
+    }
+}
+
+fn carrier_set(profile: u32, bits: u32, n: u32) -> Set {
+    Set { profile, bits, n }
+}
+
+// Twelve sets: each R and C, both orders of twenty, and each s.
+fn dozen_at(i: u32) -> Set {
+    match i {
+        0 => turbo_set(40),
+        1 => turbo_set(41),
+        2 => turbo_set(160),
+        3 => turbo_set(201),
+        4 => turbo_set(481),
+        5 => turbo_set(2281),
+        6 => turbo_set(5114),
+        7 => carrier_set(1, 1, 12),
+        8 => carrier_set(3, 4, 192),
+        9 => carrier_set(3, 6, 288),
+        10 => carrier_set(1, 6, 1152),
+        _ => carrier_set(4, 2, 1536),
+    }
+}
+
+// A choice of sets: 0 profiles 1 to 4, 1 profile 5, 2 the dozen.
+fn set_at(choice: u32, i: u32) -> Set {
+    if choice == 0 {
+        return carrier_at(i);
+    }
+    if choice == 1 {
+        return turbo_set(i % 5075 + 40);
+    }
+    dozen_at(i)
+}
+
+fn sets_in(choice: u32) -> u32 {
+    if choice == 0 {
+        return 36864;
+    }
+    if choice == 1 {
+        return 5075;
+    }
+    12
+}
+
+fn accepted(set: Set) -> bool {
+    let v = sets::test(set);
+    match v {
+        Verdict::Accepted => true,
+        Verdict::Refused(_) => false,
+    }
+}
+
+// One set, in slices of a size, or whole for size 0. A refused set is passed over.
+fn walk_one(set: Set, back: bool, size: usize, list: &mut [u16], slice: &mut [u16]) -> Count {
+    if !accepted(set) {
+        return Count::none();
+    }
+    let w = second::list_of(set, back, list);
+    if size == 0 {
+        return slices::compare(w, back, set.n as usize, list, slice);
+    }
+    slices::compare(w, back, size, list, slice)
+}
+
+fn walk_each(choice: u32, back: bool, size: usize, list: &mut [u16], slice: &mut [u16]) -> Count {
+    let n = sets_in(choice);
+    let mut c = Count::none();
+    let mut i = 0;
+    while i < n {
+        c = c.with(walk_one(set_at(choice, i), back, size, list, slice));
+        i += 1;
+    }
+    c
+}
+
+fn walks_of(title: &[u8], choice: u32, back: bool, size: usize) -> u64 {
+    let mut list = [0u16; 12000];
+    let mut slice = [0u16; 6144];
+    let c = walk_each(choice, back, size, &mut list, &mut slice);
+    count::walks_line(title, c);
+    c.differences
+}
+
+// Two blocks for each set, of low bytes and of high.
+fn blocks_one(i: u32, list: &mut [u16]) -> Count {
+    let set = dozen_at(i / 2);
+    second::list_of(set, false, list);
+    let mut src = [0u8; 6144];
+    let mut dst = [0u8; 6144];
+    let mut again = [0u8; 6144];
+    moves::block_of(set, i % 2 == 1, list, &mut src, &mut dst, &mut again)
+}
+
+fn blocks_each(list: &mut [u16]) -> Count {
+    let mut c = Count::none();
+    let mut i = 0;
+    while i < 24 {
+        c = c.with(blocks_one(i, list));
+        i += 1;
+    }
+    c
+}
+
+fn blocks_of(title: &[u8]) -> u64 {
+    let mut list = [0u16; 12000];
+    let c = blocks_each(&mut list);
+    count::short_line(title, c);
+    c.differences
+}
+
+fn singles_one(i: u32, list: &mut [u16]) -> Count {
+    let set = dozen_at(i);
+    second::list_of(set, false, list);
+    moves::singles(set, list)
+}
+
+fn singles_each(list: &mut [u16]) -> Count {
+    let mut c = Count::none();
+    let mut i = 0;
+    while i < 12 {
+        c = c.with(singles_one(i, list));
+        i += 1;
+    }
+    c
+}
+
+fn singles_of(title: &[u8]) -> u64 {
+    let mut list = [0u16; 12000];
+    let c = singles_each(&mut list);
+    count::short_line(title, c);
+    c.differences
+}
+
+fn every_set() -> u64 {
+    let a = walks_of(b"L of profiles 1 to 4, whole", 0, false, 0);
+    let b = walks_of(b"L of profiles 1 to 4, slices of 1024", 0, false, 1024);
+    let c = walks_of(b"M of profiles 1 to 4, whole", 0, true, 0);
+    let d = walks_of(b"M of profiles 1 to 4, slices of 1024", 0, true, 1024);
+    let e = walks_of(b"L of profile 5, whole", 1, false, 0);
+    let f = walks_of(b"L of profile 5, slices of 1024", 1, false, 1024);
+    sum(sum(sum(a, b), sum(c, d)), sum(e, f))
+}
+
+fn dozen() -> u64 {
+    let a = walks_of(b"L of a dozen, slices of 1", 2, false, 1);
+    let b = walks_of(b"L of a dozen, slices of 7", 2, false, 7);
+    let c = walks_of(b"L of a dozen, slices of 137", 2, false, 137);
+    let d = blocks_of(b"blocks of bytes of a dozen, there and back");
+    let e = singles_of(b"single addresses of a dozen, there and back");
+    sum(sum(sum(a, b), sum(c, d)), e)
+}
+
+fn main() {
+    let all = every_set();
+    let some = dozen();
+    count::last_line(sum(all, some));
+}
