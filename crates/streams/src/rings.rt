@@ -27,7 +27,7 @@ fn wrap(place: usize, first: usize, last: usize) -> usize
 }
 
 // The bytes that pass through: byte from, and each branches-th after it.
-pub fn pass(branches: usize, from: usize, input: &[u8], out: &mut [u8])
+pub(super) fn pass(branches: usize, from: usize, input: &[u8], out: &mut [u8])
     requires { ⌜ (0 < branches) × (branches < 65536) × (length (now out) ≡ length (now input)) ⌝ }
     ensures { λ _. ⌜ Passed branches from (now (input .entry)) (now (out .entry)) (now (out .exit)) ⌝ }
 {
@@ -65,7 +65,7 @@ fn stretch(
 }
 
 // The bytes of the ring at places first to last - 1: byte from, which goes to place at, and each branches-th after it.
-pub fn turn(
+pub(super) fn turn(
     branches: usize,
     first: usize,
     last: usize,

@@ -12,7 +12,7 @@ ghost use Rattle.walks.specs.Passed.{Taken};
 ghost use Rattle.walks.specs.Lists.{source, target};
 
 // One address of an accepted carrier set: 4, then L(t).
-pub fn carrier_l(set: Set, t: u32) -> Found
+pub(super) fn carrier_l(set: Set, t: u32) -> Found
     requires { ⌜ Taken set false ⌝ }
     ensures { λ r. ⌜ sayFound r ≡ judged (refusal set) (oneLines set t) (source set t) ⌝ }
 {
@@ -26,7 +26,7 @@ pub fn carrier_l(set: Set, t: u32) -> Found
 }
 
 // One address of an accepted set of profile 5: 8, then 4, then L(t). Past the block the leaf is asked for the last position.
-pub fn turbo_l(set: Set, t: u32) -> Found
+pub(super) fn turbo_l(set: Set, t: u32) -> Found
     requires { ⌜ Taken set true ⌝ }
     ensures { λ r. ⌜ sayFound r ≡ judged (refusal set) (oneLines set t) (source set t) ⌝ }
 {
@@ -45,7 +45,7 @@ pub fn turbo_l(set: Set, t: u32) -> Found
 }
 
 // One address of an accepted carrier set: 4, then M(k).
-pub fn carrier_m(set: Set, k: u32) -> Found
+pub(super) fn carrier_m(set: Set, k: u32) -> Found
     requires { ⌜ Taken set false ⌝ }
     ensures { λ r. ⌜ sayFound r ≡ judged (refusal set) (oneLines set k) (target set k) ⌝ }
 {
@@ -59,7 +59,7 @@ pub fn carrier_m(set: Set, k: u32) -> Found
 }
 
 // One address of an accepted set of profile 5: 8, then 4, then M(k). Past the block the leaf is asked for the last position.
-pub fn turbo_m(set: Set, k: u32) -> Found
+pub(super) fn turbo_m(set: Set, k: u32) -> Found
     requires { ⌜ Taken set true ⌝ }
     ensures { λ r. ⌜ sayFound r ≡ judged (refusal set) (oneLines set k) (target set k) ⌝ }
 {

@@ -5,7 +5,7 @@ ghost use mathlib.Core.Path.{_≡_};
 ghost use Prim.Native.Nat.{_+_, _-_, _%_, _<_, _≤_};
 ghost use Rattle.wcdma.specs.Post.{entryAt, CellIn, CellOf, ColumnIn, ColumnOf, FillIn, WentOf};
 
-pub fn wide16(x: u16) -> usize
+pub(super) fn wide16(x: u16) -> usize
     ensures { λ r. ⌜ r ≡ x ⌝ }
 {
     x as usize
@@ -86,7 +86,7 @@ fn one_column(
 }
 
 // The loop of the walk, from row i of column j: a column at a time where there is room for one, else a cell.
-pub fn fill(
+pub(super) fn fill(
     shape: Shape,
     cell: usize,
     row: usize,

@@ -23,7 +23,7 @@ fn first_exponent(i: usize, j: u32, x: usize, step: u32, m: u32) -> u32
 }
 
 // The rows: where each begins, by how much its exponent falls from column to column, and its exponent at row i of column j.
-pub fn lay_out(
+pub(super) fn lay_out(
     shape: Shape,
     q: &[u32; 20],
     i: usize,

@@ -165,14 +165,14 @@ const ORDERS: [[u8; 20]; 2] = [
     ],
 ];
 
-pub fn primes_table() -> [u16; 52]
+pub(super) fn primes_table() -> [u16; 52]
     ensures { λ r. ⌜ r ≡ primes ⌝ }
 {
     PRIMES
 }
 
 // v of the prime at place n.
-pub fn root_at(n: usize) -> u32
+pub(super) fn root_at(n: usize) -> u32
     requires { ⌜ n < 52 ⌝ }
     ensures { λ r. ⌜ r ≡ root (getD primes n 0) ⌝ }
 {
@@ -180,7 +180,7 @@ pub fn root_at(n: usize) -> u32
 }
 
 // One of the two row orders of twenty rows.
-pub fn order_at(n: usize) -> [u8; 20]
+pub(super) fn order_at(n: usize) -> [u8; 20]
     requires { ⌜ n < 2 ⌝ }
     ensures { λ r. ⌜ r ≡ getD rowOrders n [] ⌝ }
 {
