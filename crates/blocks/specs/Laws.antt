@@ -4,7 +4,7 @@ use Prim.Native.Nat.{ℕ, _<_}
 use mathlib.Core.List.{List, map}
 use mathlib.Core.Path.{_≡_, refl, sym, ap, ap₂, _∙_}
 use lib.ListN.{length, getD, length-map}
-use Rattle.laws.specs.Outcome.{done, Ruling, clear, stopped, first, settle, after, answer-clear, clear-front}
+use Rattle.laws.specs.Outcome.{done, clear, first, after, after-map, answer-clear, clear-front}
 use Rattle.laws.specs.Perm.{Perm, turned}
 use Rattle.laws.specs.Move.{gather, scatter, getD-gather, length-gather, back, scatter-is}
 use Rattle.laws.specs.Blind.{gather-blind, scatter-blind}
@@ -81,20 +81,16 @@ module _ {A B : Type 0} (h : A → B) (s : Set) (z : A) (src dst : List A) where
   pub blind-answer : movedOf s (length (map h src)) (length (map h dst)) ≡ movedOf s (length src) (length dst)
   blind-answer = ap₂ (movedOf s) (length-map src h) (length-map dst h)
 
-  map-settle : (r : Ruling) (new old : List A) → settle r (λ k. map h old) (map h new) ≡ map h (settle r (λ k. old) new)
-  map-settle clear new old = refl
-  map-settle (stopped k) new old = refl
-
   pub blind-interleaved : interleaved s (h z) (map h src) (map h dst) ≡ map h (interleaved s z src dst)
   unfolding interleaved
   blind-interleaved =
       ap₂ (λ (i o : ℕ). after (blockLines s i o) (gather (source s) (s .n) (h z) (map h src)) (map h dst)) (length-map src h) (length-map dst h)
       ∙ ap (λ (l : List B). after (blockLines s (length src) (length dst)) l (map h dst)) (gather-blind h (source s) (s .n) z src)
-      ∙ map-settle (first (blockLines s (length src) (length dst))) (gather (source s) (s .n) z src) dst
+      ∙ after-map (map h) (blockLines s (length src) (length dst)) (gather (source s) (s .n) z src) dst
 
   pub blind-deinterleaved : deinterleaved s (h z) (map h src) (map h dst) ≡ map h (deinterleaved s z src dst)
   unfolding deinterleaved
   blind-deinterleaved =
       ap₂ (λ (i o : ℕ). after (blockLines s i o) (scatter (source s) (s .n) (h z) (map h src) (map h dst)) (map h dst)) (length-map src h) (length-map dst h)
       ∙ ap (λ (l : List B). after (blockLines s (length src) (length dst)) l (map h dst)) (scatter-blind h (source s) (s .n) z src dst)
-      ∙ map-settle (first (blockLines s (length src) (length dst))) (scatter (source s) (s .n) z src dst) dst
+      ∙ after-map (map h) (blockLines s (length src) (length dst)) (scatter (source s) (s .n) z src dst) dst

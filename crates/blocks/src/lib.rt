@@ -11,11 +11,11 @@ pub mod bytes; // bytes.rt: blocks of bytes
 pub mod soft; // soft.rt: blocks of soft values
 
 // A table is cleared at each call, so it is the smallest of three that holds N. The largest holds any listed size, and those of later profiles.
-const SMALL: usize = 64;
+pub const SMALL: usize = 64;
 
-const MIDDLE: usize = 512;
+pub const MIDDLE: usize = 512;
 
-const LARGE: usize = 6144;
+pub const LARGE: usize = 6144;
 
 // The answer of a block call.
 pub enum Moved {

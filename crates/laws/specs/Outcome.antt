@@ -150,6 +150,22 @@ buffer-kept ls k new old f = rw (stopped-first ls k f)
 pub buffer-new : {B : Type 0} (ls : List Line) (new old : B) → Clear ls → after ls new old ≡ new
 buffer-new ls new old c = rw (clear-first ls c)
 
+-- a change made to both buffers is made to what the call leaves
+pub after-map : {A B : Type 0} (h : A → B) (ls : List Line) (new old : A) → after ls (h new) (h old) ≡ h (after ls new old)
+after-map h ls new old = go (first ls)
+  where
+    go : (r : Ruling) → settle r (λ k. h old) (h new) ≡ h (settle r (λ k. old) new)
+    go clear = refl
+    go (stopped k) = refl
+
+-- two new buffers that are the same where no line applies leave the same
+pub after-same : {B : Type 0} (ls : List Line) {a b : B} (old : B) → (first ls ≡ clear → a ≡ b) → after ls a old ≡ after ls b old
+after-same ls {a} {b} old same = go (first ls) same
+  where
+    go : (r : Ruling) → (r ≡ clear → a ≡ b) → settle r (λ k. old) a ≡ settle r (λ k. old) b
+    go clear same = same refl
+    go (stopped k) same = refl
+
 -- the same from an answer
 module _ {R A : Type 0} (give : ℕ → R) (a : A) (ls : List Line) where
   pub answer-keeps : {r : R} → judged give ls a ≡ refused r → {B : Type 0} (new old : B) → after ls new old ≡ old

@@ -3,7 +3,7 @@
 use mathlib.Core.Path.{_≡_, refl, ap, _∙_}
 use mathlib.Core.List.{List, map}
 use lib.ListN.{length-map}
-use Rattle.laws.specs.Outcome.{Line, Ruling, clear, stopped, first, settle, judged, after}
+use Rattle.laws.specs.Outcome.{Line, judged, after, after-map}
 use Rattle.delay.specs.Cuts.{replicate-map, output-map, store-map, record-map}
 use Rattle.streams.specs.declared.Stream.{Stream}
 use Rattle.streams.specs.Dvb.{slotOf, nextOf, startRecord, startStore, fedOutput, fedStore, fedRecord}
@@ -11,13 +11,6 @@ use Rattle.streams.specs.Answers.{startLines}
 use Rattle.streams.specs.Calls.{Call, linesOf, says, storeAfter, outputAfter}
 
 module _ {A B : Type 0} (g : A → B) where
-  after-map : (ls : List Line) (new old : List A) → after ls (map g new) (map g old) ≡ map g (after ls new old)
-  after-map ls new old = go (first ls)
-    where
-      go : (r : Ruling) → settle r (λ k. map g old) (map g new) ≡ map g (settle r (λ k. old) new)
-      go clear = refl
-      go (stopped k) = refl
-
   -- a call with every byte changed
   abbrev pub changed : Call A → Call B
   changed c = record { way = c .way; stream = c .stream; store = map g (c .store); input = map g (c .input); output = map g (c .output) }
@@ -37,7 +30,7 @@ module _ {A B : Type 0} (g : A → B) where
     ap (λ (ls : List Line). judged (λ k. k) ls startRecord) (start-lines-map store),
     ap (λ (ls : List Line). after ls (startStore (g f)) (map g store)) (start-lines-map store)
         ∙ ap (λ (l : List B). after (startLines store) l (map g store)) (replicate-map g 1122 f)
-        ∙ after-map (startLines store) (startStore f) store,
+        ∙ after-map (map g) (startLines store) (startStore f) store,
   )
 
   -- a feed
@@ -51,8 +44,8 @@ module _ {A B : Type 0} (g : A → B) where
             ∙ ap (λ (s : Stream). judged (λ k. k) (linesOf c) s) (record-map g slot nextOf (c .input) (c .stream)),
         ap (λ (ls : List Line). after ls (fedStore (c .way) (c .stream) (map g (c .store)) (map g (c .input))) (map g (c .store))) lines
             ∙ ap (λ (l : List B). after (linesOf c) l (map g (c .store))) (store-map g slot nextOf (c .input) (c .stream) (c .store))
-            ∙ after-map (linesOf c) (fedStore (c .way) (c .stream) (c .store) (c .input)) (c .store),
+            ∙ after-map (map g) (linesOf c) (fedStore (c .way) (c .stream) (c .store) (c .input)) (c .store),
         ap (λ (ls : List Line). after ls (fedOutput (c .way) (c .stream) (map g (c .store)) (map g (c .input))) (map g (c .output))) lines
             ∙ ap (λ (l : List B). after (linesOf c) l (map g (c .output))) (output-map g slot nextOf (c .input) (c .stream) (c .store))
-            ∙ after-map (linesOf c) (fedOutput (c .way) (c .stream) (c .store) (c .input)) (c .output),
+            ∙ after-map (map g) (linesOf c) (fedOutput (c .way) (c .stream) (c .store) (c .input)) (c .output),
       )

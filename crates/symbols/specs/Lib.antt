@@ -1,0 +1,9 @@
+pub mod Groups
+pub mod Wide
+pub mod Answer
+pub mod Moves
+pub mod Passed
+pub mod Laws
+pub mod One
+pub mod Blind
+pub mod Refusals
