@@ -4,5 +4,6 @@ pub mod Once
 pub mod Block
 pub mod Row
 pub mod Along
+pub mod Straight
 pub mod Column
 pub mod Down

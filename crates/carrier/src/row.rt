@@ -79,6 +79,35 @@ impl RowSpot {
     }
 }
 
+// The part of a row where s is 1: nothing is turned, and an address is d more than the one before. (A loop by itself, so that the compiler can
+// write several at once.)
+fn straight(
+    d: usize,
+    n: usize,
+    row: usize,
+    col: usize,
+    start: RowSpot,
+    out: &mut [u16],
+    from: usize,
+    stop: usize,
+) -> RowSpot
+    requires { ⌜ AlongIn d n 1 0 d row col start from stop (now out) ⌝ }
+    ensures { λ r. ⌜ Along d n 1 row col from stop (now (out .entry)) (now (out .exit)) r stop ⌝ }
+{
+    let mut a = start.base;
+    let mut i = from;
+    while i < stop {
+        out[i] = a as u16;
+        a += d;
+        i += 1;
+    }
+    RowSpot {
+        base: a,
+        low: 0,
+        lift: 0,
+    }
+}
+
 // Writes L of a row's columns from col on, at out[from] to out[stop - 1], and gives back where it then stands. n, row and col are there for
 // what is promised.
 fn along(
@@ -97,6 +126,9 @@ fn along(
     requires { ⌜ AlongIn d n s top group row col start from stop (now out) ⌝ }
     ensures { λ r. ⌜ Along d n s row col from stop (now (out .entry)) (now (out .exit)) r stop ⌝ }
 {
+    if s == 1 {
+        return straight(d, n, row, col, start, out, from, stop);
+    }
     let mut at = start;
     let mut i = from;
     while i < stop {
