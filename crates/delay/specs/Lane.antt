@@ -54,6 +54,11 @@ pub record Stretch (b place last rest stop : ℕ) : Type 0 where
   pub ends : stop ≤ last
   pub fits : b * stop < rest + b + b * place
 
+-- of rest bytes, each b-th from the first on is the ring's: left of them
+pub record Left (b rest left : ℕ) : Type 0 where
+  pub few : b * left < rest + b
+  pub all : rest ≤ b * left
+
 -- what a ring's loop does, whatever the machine that has the ring: byte i is its first, and goes to place
 pub record Turned (b first last i place : ℕ) (store input out store′ out′ : List ℕ) : Type 0 where
   pub lane : (way : Way) (s t x : ℕ) → Ring b s x first last → length store ≡ offset s b → Leads way b t x i

@@ -1,33 +1,41 @@
 -- What holds at each turn of a feed's loops: over a stretch of neighbouring places, over a ring, over the bytes that pass through, over the
 -- rings. Over the number of branches and the step. Assumes nothing.
-use Prim.Native.Nat.{ℕ, suc, _+_, _-_, _*_, _/_, _≤_, _<_}
-use mathlib.Core.Path.{_≡_, refl, _∙_}
+use Prim.Native.Nat.{ℕ, suc, _+_, _-_, _*_, _/_, _%_, _≤_, _<_}
+use mathlib.Core.Path.{_≡_, refl, ap, _∙_}
 use mathlib.Core.List.{List}
-use native.Mathlib.Nat.{mul-le-mul-left, mul-comm, div-add-mod'}
+use native.Mathlib.Nat.{mod-lt, mul-le-mul-left, mul-comm, mul-zero, mul-one, div-add-mod'}
 use native.Mathlib.Numerals.{add-one}
 use native.Mathlib.Omega.{arith}
 use lib.ListN.{length, getD, set, length-set}
 use Rattle.delay.specs.declared.Way.{Way}
 use Rattle.delay.specs.Machine.{through, offset, slotAt, runOutput, runStore}
 use Rattle.delay.specs.Slots.{offset-suc, offset-le}
-use Rattle.delay.specs.Lane.{Inside, ringAt, Lane, Leads, wrapOf, Stretch, Turned, Passed}
+use Rattle.delay.specs.Lane.{Inside, ringAt, Lane, Leads, wrapOf, Stretch, Left, Turned, Passed}
 use Rattle.delay.specs.Laning.{ring-again, lane-none, lane-more, lane-all, Rings, rings-none, rings-more, rings-all}
 use Rattle.delay.specs.Turning.{wrap-low, Steps, steps-none, steps-more, steps-wrap, steps-then, steps-all}
 
--- ---- how far a stretch goes: to its last byte, or to the ring's end
+-- ---- how many bytes of a ring are left, and how far a stretch of them goes: to the last of them, or to the ring's end
 
-module _ (b p last rest : ℕ) (hb : 0 < b) (h : p < last) (some : 0 < rest) where
-  few-bytes : b * ((rest - 1) / b) < rest
-  few-bytes = omega (arith, div-add-mod' (rest - 1) b, mul-comm b ((rest - 1) / b))
+pub left-some : (b rest : ℕ) → 0 < b → 0 < rest → Left b rest ((rest - 1) / b + 1)
+left-some b rest hb h =
+    record { few = omega (arith, whole, mul-comm b ((rest - 1) / b)); all = omega (arith, whole, mod-lt (rest - 1) hb, mul-comm b ((rest - 1) / b)) }
+  where
+    whole : (rest - 1) / b * b + (rest - 1) % b ≡ rest - 1
+    whole = div-add-mod' (rest - 1) b
 
-  pub stretch-bytes : (rest - 1) / b < last - p → Stretch b p last rest (p + (rest - 1) / b + 1)
-  stretch-bytes l = record { some = omega arith; ends = omega arith; fits = omega (arith, few-bytes) }
+pub left-none : (b : ℕ) → 0 < b → Left b 0 0
+left-none b hb = record { few = omega (arith, mul-zero b); all = omega arith }
 
-  pub stretch-ring : last - p ≤ (rest - 1) / b → Stretch b p last rest last
-  stretch-ring l = record { some = h; ends = omega arith; fits = omega (arith, few-bytes, all) }
-    where
-      all : b * last ≤ b * (p + (rest - 1) / b)
-      all = mul-le-mul-left b (omega arith)
+module _ {b rest left : ℕ} (l : Left b rest left) where
+  pub left-rest : 0 < left → 0 < rest
+  left-rest h = omega (arith, l .few, mul-le-mul-left b (let z : 1 ≤ left = h in z), mul-one b)
+
+  pub rest-left : left ≤ 0 → rest ≤ 0
+  rest-left h = omega (arith, l .all, ap (λ (x : ℕ). b * x) (let z : left ≡ 0 = omega arith in z), mul-zero b)
+
+  pub stretch-left : {p last stop : ℕ} → p < stop → stop ≤ last → stop ≤ p + left → Stretch b p last rest stop
+  stretch-left {p} {last} {stop} some ends most =
+      record { some = some; ends = ends; fits = omega (arith, l .few, mul-le-mul-left b most) }
 
 -- ---- a stretch, from place p₁ and byte i₁ to the place stop, in whatever ring
 
@@ -81,19 +89,12 @@ module _ {b first last : ℕ} {input store₀ out₀ : List ℕ} {i₀ p₀ : �
   rounds-none h n e = record { moves = steps-none; low = h; short = n; room = e }
 
   module _ {store₁ out₁ : List ℕ} {i₁ p₁ : ℕ} (g : Rounds b first last input store₀ out₀ i₀ p₀ store₁ out₁ i₁ p₁) where
-    -- a stretch that until gives can be gone ..
+    -- a stretch can be gone ..
     pub stretch-fits : {stop : ℕ} → i₁ < length input → Stretch b p₁ last (length input - i₁) stop
         → (p₁ ≤ stop) × (stop ≤ length store₁) × (b * stop + i₁ < length input + b + b * p₁)
     stretch-fits h l = (omega (arith, l .some), omega (arith, l .ends, g .short), omega (arith, l .fits))
 
     module _ {store out : List ℕ} {i stop rest : ℕ} (l : Stretch b p₁ last rest stop) (h : Stretching b input store₁ out₁ i₁ p₁ stop store out i stop) where
-      -- .. moves on ..
-      pub stretched : 0 < b → i₁ < i
-      stretched hb = omega (arith, h .moved, next)
-        where
-          next : b * (p₁ + 1) ≤ b * stop
-          next = mul-le-mul-left b (omega (arith, l .some))
-
       -- .. and goes round at the ring's end
       pub rounds-more : {q : ℕ} → first < last → q ≡ wrapOf stop first last → Rounds b first last input store₀ out₀ i₀ p₀ store out i q
       rounds-more f w = rw w (record {
@@ -102,6 +103,13 @@ module _ {b first last : ℕ} {input store₀ out₀ : List ℕ} {i₀ p₀ : �
         short = omega (arith, g .short, h .long);
         room = h .room;
       })
+
+      -- and as many bytes fewer are left
+      pub left-after : {left : ℕ} → i₁ < length input → stop ≤ p₁ + left → Left b (length input - i₁) left → Left b (length input - i) (left - (stop - p₁))
+      left-after {left} k most w =
+          let e : p₁ + left ≡ stop + (left - (stop - p₁)) = omega (arith, l .some) in
+          let m = ap (λ (x : ℕ). b * x) e in
+          record { few = omega (arith, w .few, h .moved, m); all = omega (arith, w .all, h .moved, m) }
 
     pub rounds-all : length input ≤ i₁ → length out₀ ≡ length input → Turned b first last i₀ p₀ store₀ input out₀ store₁ out₁
     rounds-all h e = steps-all (g .moves) h e

@@ -1,19 +1,30 @@
-// The loops over one ring of a branch machine, for any number of branches. A stretch of a ring divides once, to know its length; no byte
-// within it divides, and none reads a table.
+// The loops over one ring of a branch machine, for any number of branches. A ring divides once a feed, to know how many bytes it has in it; no
+// loop divides, and none reads a table.
 ghost use mathlib.Core.Path.{_≡_};
-ghost use Prim.Native.Nat.{_+_, _*_, _≤_, _<_};
+ghost use Prim.Native.Nat.{_+_, _-_, _*_, _≤_, _<_};
 ghost use lib.ListN.{length};
-ghost use Rattle.delay.specs.Lane.{wrapOf, Stretch, Turned, Passed};
+ghost use Rattle.delay.specs.Lane.{wrapOf, Left, Turned, Passed};
 ghost use Rattle.delay.specs.Loops.{Stretching};
 
-// Where a stretch from place on ends: at the ring's end, or where the bytes do. There are rest bytes left, each branches-th of this ring.
-fn until(branches: usize, place: usize, last: usize, rest: usize) -> usize
-    requires { ⌜ (0 < branches) × (place < last) × (0 < rest) ⌝ }
-    ensures { λ r. ⌜ Stretch branches place last rest r ⌝ }
+// How many bytes a ring has of those from `from` to `end`: the first of them, and each branches-th after it.
+fn left_of(branches: usize, from: usize, end: usize) -> usize
+    requires { ⌜ 0 < branches ⌝ }
+    ensures { λ r. ⌜ Left branches (end - from) r ⌝ }
 {
-    let bytes = (rest - 1) / branches;
-    if bytes < last - place {
-        place + bytes + 1
+    if from < end {
+        (end - from - 1) / branches + 1
+    } else {
+        0
+    }
+}
+
+// Where a stretch from place on ends: at the ring's end, or where the bytes that are left do.
+fn until(place: usize, last: usize, left: usize) -> usize
+    requires { ⌜ (place < last) × (0 < left) ⌝ }
+    ensures { λ r. ⌜ (place < r) × (r ≤ last) × (r ≤ place + left) ⌝ }
+{
+    if left < last - place {
+        place + left
     } else {
         last
     }
@@ -80,9 +91,11 @@ pub(super) fn turn(
 {
     let mut i = from;
     let mut place = at;
-    while i < input.len() {
-        let stop = until(branches, place, last, input.len() - i);
+    let mut left = left_of(branches, from, input.len());
+    while left > 0 {
+        let stop = until(place, last, left);
         i = stretch(branches, i, place, stop, store, input, out);
+        left -= stop - place;
         place = wrap(stop, first, last);
     }
 }
