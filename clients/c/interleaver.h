@@ -1,0 +1,92 @@
+/* Interleavers for C: address lists, whole blocks of bytes and of floats, the DVB byte stream.
+
+       interleaver_set set = {INTERLEAVER_WLAN, 4, 192};
+       uint8_t in[192], out[192];
+       ...
+       if (interleaver_interleave_bytes(&set, in, 192, out, 192) != INTERLEAVER_DONE)
+           return -1;
+
+   Every call gives 0 when it is done, else the number of its first refusal, in the order in which its comment lists them; a refused call
+   leaves every buffer and every out-parameter as it was. L is the list of input indices in output order, M its inverse: interleaving gives
+   out[t] = in[L(t)], deinterleaving out[L(t)] = in[t]. A buffer is a pointer and the number of its elements.
+
+   The caller sees to it that no pointer is null (not even of a buffer of length 0), that each points to as much memory as its length says,
+   and that nothing a call writes overlaps anything else it is given. No call keeps a pointer, allocates, or has memory of its own but for 16 KiB
+   of stack: calls on different buffers may run at once. */
+#ifndef INTERLEAVER_H
+#define INTERLEAVER_H
+#include <stddef.h>
+#include <stdint.h>
+#ifdef __cplusplus
+extern "C" {
+#endif
+
+/* A parameter set. Any numbers may be given: each call tests them. */
+typedef struct interleaver_set {
+    uint32_t profile; /* see below */
+    uint32_t bits;    /* bits per carrier: 1, 2, 4 or 6; profile 5: 1 */
+    uint32_t n;       /* symbols of a block */
+} interleaver_set;
+
+#define INTERLEAVER_OFDM 1u  /* IEEE 802.16 OFDM */
+#define INTERLEAVER_OFDMA 2u /* IEEE 802.16 OFDMA */
+#define INTERLEAVER_WLAN 3u  /* IEEE 802.11a */
+#define INTERLEAVER_BENCH 4u
+#define INTERLEAVER_WCDMA 5u /* 3GPP TS 25.212, turbo */
+
+#define INTERLEAVER_MAX_N 5114u         /* the largest n of any set */
+#define INTERLEAVER_DVB_STORE 1122u     /* bytes of a DVB machine's store */
+#define INTERLEAVER_DVB_PHASES 5654880u /* a phase is below this */
+#define INTERLEAVER_DVB_DELAY 2244u     /* an interleaver and a deinterleaver together are this many bytes late */
+
+#define INTERLEAVER_DONE 0u
+#define INTERLEAVER_PROFILE 1u  /* the profile isn't 1 to 5, or it is 5 and the call is the walk for M */
+#define INTERLEAVER_BITS 2u     /* the bits aren't listed for the profile */
+#define INTERLEAVER_SIZE 3u     /* n isn't listed for that profile and those bits */
+#define INTERLEAVER_POSITION 4u /* a position is n or more */
+#define INTERLEAVER_INPUT 5u    /* a block's input isn't n long */
+#define INTERLEAVER_OUTPUT 6u   /* a block's output isn't n long, or a feed's isn't as long as its input */
+#define INTERLEAVER_STORE 7u    /* a store isn't 1,122 bytes */
+#define INTERLEAVER_SEARCH 8u   /* the search for q passes 89: proved never to happen */
+#define INTERLEAVER_RECORD 9u   /* a cell is past the cell total, or a phase is 5,654,880 or more */
+
+/* The test of a parameter set. Refusals 1, 2, 3. */
+uint32_t interleaver_test(const interleaver_set *set);
+
+/* One address: *address = L(t), or M(k). Refusals 1, 2, 3, 8, 4. */
+uint32_t interleaver_address_l(const interleaver_set *set, uint32_t t, uint32_t *address);
+uint32_t interleaver_address_m(const interleaver_set *set, uint32_t k, uint32_t *address);
+
+/* A walk: the addresses of L, or of M, from *cell on, until out is full or no cell is left; begin with *cell = 0, and hand *cell on, until
+   *written is below out_len: then the walk is at its end. A cell is a place of the list, or for profile 5 of a rectangle, where some cells are padding
+   and have no address. *written is how many addresses were written, *cells how many cells were passed. The rest of out
+   keeps what it held. Refusals of the walk for L 1, 2, 3, 8, 9; of the walk for M 1 (profile 5 too), 2, 3, 9. */
+uint32_t interleaver_walk_l(const interleaver_set *set, uint32_t *cell, uint16_t *out, size_t out_len, uint32_t *written, uint32_t *cells);
+uint32_t interleaver_walk_m(const interleaver_set *set, uint32_t *cell, uint16_t *out, size_t out_len, uint32_t *written, uint32_t *cells);
+
+/* A whole block from src into dst, both n long. No symbol is looked at; a float's 32 bits are copied. Refusals 1, 2, 3, 8, 5, 6. */
+uint32_t interleaver_interleave_bytes(const interleaver_set *set, const uint8_t *src, size_t src_len, uint8_t *dst, size_t dst_len);
+uint32_t interleaver_deinterleave_bytes(const interleaver_set *set, const uint8_t *src, size_t src_len, uint8_t *dst, size_t dst_len);
+uint32_t interleaver_interleave_soft(const interleaver_set *set, const float *src, size_t src_len, float *dst, size_t dst_len);
+uint32_t interleaver_deinterleave_soft(const interleaver_set *set, const float *src, size_t src_len, float *dst, size_t dst_len);
+
+/* The same for symbols of `width` bytes each (any number, 0 too), src and dst n times width long: refusals 5 and 6 go by that. */
+uint32_t interleaver_interleave_symbols(const interleaver_set *set, uint32_t width, const uint8_t *src, size_t src_len, uint8_t *dst,
+                                        size_t dst_len);
+uint32_t interleaver_deinterleave_symbols(const interleaver_set *set, uint32_t width, const uint8_t *src, size_t src_len, uint8_t *dst,
+                                          size_t dst_len);
+
+/* The DVB byte machine. Its state is a store of INTERLEAVER_DVB_STORE bytes and a phase. A start, of either way, fills the store and sets the
+   phase to 0. Refusal 7. */
+uint32_t interleaver_dvb_start(uint8_t *store, size_t store_len, uint8_t fill, uint32_t *phase);
+
+/* Feeds of any length, as long out as in. Refusals 7, 9, 6. */
+uint32_t interleaver_dvb_interleave(uint32_t *phase, uint8_t *store, size_t store_len, const uint8_t *input, size_t input_len, uint8_t *out,
+                                    size_t out_len);
+uint32_t interleaver_dvb_deinterleave(uint32_t *phase, uint8_t *store, size_t store_len, const uint8_t *input, size_t input_len, uint8_t *out,
+                                      size_t out_len);
+
+#ifdef __cplusplus
+}
+#endif
+#endif

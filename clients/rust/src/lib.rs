@@ -1,0 +1,247 @@
+//! Interleavers for radio terminals, proved in Rattle: slices in, `Result` out.
+//!
+//! L is the list of input indices in output order, M its inverse: interleaving gives `out[t] = in[L(t)]`, deinterleaving
+//! `out[L(t)] = in[t]`. A call that is refused leaves every slice as it was.
+//!
+//! ```
+//! use interleaver::{Refusal, Set};
+//!
+//! let set = Set::new(3, 4, 192)?; // IEEE 802.11a, 4 bits per carrier
+//! let input: Vec<u8> = (0..192).collect();
+//! let (mut sent, mut received) = ([0; 192], [0; 192]);
+//! set.interleave(&input, &mut sent)?;
+//! set.deinterleave(&sent, &mut received)?;
+//! assert_eq!((sent[1], set.source(1)?), (16, 16));
+//! assert_eq!(received[..], input[..]);
+//! assert_eq!(set.interleave(&input, &mut sent[1..]), Err(Refusal::Output));
+//! # Ok::<(), Refusal>(())
+//! ```
+//!
+//! What each call does is proved: see the contracts in `crates/exports/src`. What is left to this file is that the pointers it hands over
+//! are those of live slices that do not overlap, which is what a `&` and a `&mut` are.
+
+mod raw {
+    use super::Set;
+    extern "C" {
+        pub fn interleaver_test(set: &Set) -> u32;
+        pub fn interleaver_address_l(set: &Set, t: u32, address: &mut u32) -> u32;
+        pub fn interleaver_address_m(set: &Set, k: u32, address: &mut u32) -> u32;
+        pub fn interleaver_walk_l(set: &Set, cell: &mut u32, out: *mut u16, len: usize, written: &mut u32, cells: &mut u32) -> u32;
+        pub fn interleaver_walk_m(set: &Set, cell: &mut u32, out: *mut u16, len: usize, written: &mut u32, cells: &mut u32) -> u32;
+        pub fn interleaver_interleave_bytes(set: &Set, src: *const u8, src_len: usize, dst: *mut u8, dst_len: usize) -> u32;
+        pub fn interleaver_deinterleave_bytes(set: &Set, src: *const u8, src_len: usize, dst: *mut u8, dst_len: usize) -> u32;
+        pub fn interleaver_interleave_soft(set: &Set, src: *const f32, src_len: usize, dst: *mut f32, dst_len: usize) -> u32;
+        pub fn interleaver_deinterleave_soft(set: &Set, src: *const f32, src_len: usize, dst: *mut f32, dst_len: usize) -> u32;
+        pub fn interleaver_interleave_symbols(set: &Set, width: u32, src: *const u8, src_len: usize, dst: *mut u8, dst_len: usize) -> u32;
+        pub fn interleaver_deinterleave_symbols(set: &Set, width: u32, src: *const u8, src_len: usize, dst: *mut u8, dst_len: usize) -> u32;
+        pub fn interleaver_dvb_start(store: *mut u8, store_len: usize, fill: u8, phase: &mut u32) -> u32;
+        pub fn interleaver_dvb_interleave(
+            phase: &mut u32,
+            store: *mut u8,
+            store_len: usize,
+            input: *const u8,
+            input_len: usize,
+            out: *mut u8,
+            out_len: usize,
+        ) -> u32;
+        pub fn interleaver_dvb_deinterleave(
+            phase: &mut u32,
+            store: *mut u8,
+            store_len: usize,
+            input: *const u8,
+            input_len: usize,
+            out: *mut u8,
+            out_len: usize,
+        ) -> u32;
+    }
+}
+
+/// Why a call was refused, in the numbers of the calls for C.
+#[derive(Clone, Copy, Debug, PartialEq, Eq)]
+pub enum Refusal {
+    /// No such profile, or the walk for M of profile 5.
+    Profile = 1,
+    /// The bits aren't listed for the profile.
+    Bits,
+    /// N isn't listed for that profile and those bits.
+    Size,
+    /// A position is N or more.
+    Position,
+    /// A block's input isn't N long, N times the width for symbols.
+    Input,
+    /// A block's output isn't N long, N times the width for symbols, or a feed's isn't as long as its input.
+    Output,
+    /// A store isn't 1,122 bytes: never here, a [`Dvb`] has its own.
+    Store,
+    /// The search for q passes 89: proved never to happen.
+    Search,
+    /// A walk's cell is past the cell total.
+    Record,
+}
+
+impl std::fmt::Display for Refusal {
+    fn fmt(&self, f: &mut std::fmt::Formatter) -> std::fmt::Result {
+        write!(f, "refused, number {} ({self:?})", *self as u32)
+    }
+}
+
+impl std::error::Error for Refusal {}
+
+fn answer(number: u32) -> Result<(), Refusal> {
+    use Refusal::*;
+    match number {
+        0 => Ok(()),
+        k => Err([Profile, Bits, Size, Position, Input, Output, Store, Search, Record][k as usize - 1]),
+    }
+}
+
+/// A parameter set that was tested: a profile (1 IEEE 802.16 OFDM, 2 OFDMA, 3 IEEE 802.11a, 4 bench, 5 WCDMA turbo), bits per carrier, and the
+/// block's size N.
+#[derive(Clone, Copy, Debug, PartialEq, Eq)]
+#[repr(C)]
+pub struct Set {
+    profile: u32,
+    bits: u32,
+    n: u32,
+}
+
+// One body for each of the block calls, which differ in a name, a type and whether a symbol's width is named.
+macro_rules! block_call {
+    ($name:ident, $call:ident, $symbol:ty, $what:literal $(, $width:ident)?) => {
+        #[doc = $what]
+        pub fn $name(&self, $($width: u32,)? src: &[$symbol], dst: &mut [$symbol]) -> Result<(), Refusal> {
+            // SAFETY: both slices are live and do not overlap, and the call keeps neither pointer.
+            answer(unsafe { raw::$call(self, $($width,)? src.as_ptr(), src.len(), dst.as_mut_ptr(), dst.len()) })
+        }
+    };
+}
+
+impl Set {
+    /// Tests a set.
+    pub fn new(profile: u32, bits: u32, n: u32) -> Result<Set, Refusal> {
+        let set = Set { profile, bits, n };
+        // SAFETY: the set is three numbers in a row, as the call reads it.
+        answer(unsafe { raw::interleaver_test(&set) }).map(|()| set)
+    }
+
+    /// N, the symbols of a block.
+    pub fn size(&self) -> usize {
+        self.n as usize
+    }
+
+    /// L(t): the input index that output `t` holds.
+    pub fn source(&self, t: u32) -> Result<u32, Refusal> {
+        let mut address = 0;
+        // SAFETY: numbers, and a number of this call's own.
+        answer(unsafe { raw::interleaver_address_l(self, t, &mut address) }).map(|()| address)
+    }
+
+    /// M(k): the output index that input `k` goes to.
+    pub fn target(&self, k: u32) -> Result<u32, Refusal> {
+        let mut address = 0;
+        // SAFETY: as above.
+        answer(unsafe { raw::interleaver_address_m(self, k, &mut address) }).map(|()| address)
+    }
+
+    /// The whole list L.
+    pub fn sources(&self) -> Result<Vec<u16>, Refusal> {
+        let mut list = vec![0; self.size()];
+        Walk::sources(*self).fill(&mut list).map(|_| list)
+    }
+
+    /// The whole list M. Profile 5 is refused.
+    pub fn targets(&self) -> Result<Vec<u16>, Refusal> {
+        let mut list = vec![0; self.size()];
+        Walk::targets(*self).fill(&mut list).map(|_| list)
+    }
+
+    block_call!(interleave, interleaver_interleave_bytes, u8, "Interleaves N bytes.");
+    block_call!(deinterleave, interleaver_deinterleave_bytes, u8, "Deinterleaves N bytes.");
+    block_call!(interleave_soft, interleaver_interleave_soft, f32, "Interleaves N soft values, each with its 32 bits.");
+    block_call!(deinterleave_soft, interleaver_deinterleave_soft, f32, "Deinterleaves N soft values, each with its 32 bits.");
+    block_call!(interleave_symbols, interleaver_interleave_symbols, u8, "Interleaves N symbols of `width` bytes each.", width);
+    block_call!(deinterleave_symbols, interleaver_deinterleave_symbols, u8, "Deinterleaves N symbols of `width` bytes each.", width);
+}
+
+/// A walk over the addresses of a set, slice by slice, without a list of its own.
+#[derive(Clone, Copy, Debug, PartialEq, Eq)]
+pub struct Walk {
+    set: Set,
+    /// The next cell. A walk may start at any.
+    pub cell: u32,
+    back: bool,
+}
+
+/// What a step of a walk did.
+#[derive(Clone, Copy, Debug, PartialEq, Eq)]
+pub struct Walked {
+    /// Addresses written: fewer than the slice holds only at the end.
+    pub written: usize,
+    /// Cells passed: for profile 5 some are padding, and give no address.
+    pub cells: u32,
+}
+
+impl Walk {
+    /// The walk for L.
+    pub fn sources(set: Set) -> Walk {
+        Walk { set, cell: 0, back: false }
+    }
+
+    /// The walk for M. Its steps are refused for profile 5.
+    pub fn targets(set: Set) -> Walk {
+        Walk { set, cell: 0, back: true }
+    }
+
+    /// Writes the next addresses, and moves on.
+    pub fn fill(&mut self, out: &mut [u16]) -> Result<Walked, Refusal> {
+        let (mut written, mut cells) = (0, 0);
+        let call = if self.back { raw::interleaver_walk_m } else { raw::interleaver_walk_l };
+        // SAFETY: the slice is live, and the numbers are this call's own and the walk's.
+        answer(unsafe { call(&self.set, &mut self.cell, out.as_mut_ptr(), out.len(), &mut written, &mut cells) })?;
+        Ok(Walked { written: written as usize, cells })
+    }
+}
+
+/// A DVB byte interleaver or deinterleaver, with its own store.
+#[derive(Clone)]
+pub struct Dvb {
+    store: [u8; Dvb::STORE],
+    phase: u32,
+    back: bool,
+}
+
+impl Dvb {
+    /// The bytes of a store.
+    pub const STORE: usize = 1122;
+
+    /// How many bytes late an interleaver and a deinterleaver are together.
+    pub const DELAY: usize = 2244;
+
+    fn start(fill: u8, back: bool) -> Dvb {
+        let mut machine = Dvb { store: [0; Dvb::STORE], phase: 0, back };
+        // SAFETY: the store is live. It has the length that the call asks for, which refuses nothing else.
+        let number = unsafe { raw::interleaver_dvb_start(machine.store.as_mut_ptr(), Dvb::STORE, fill, &mut machine.phase) };
+        debug_assert_eq!(number, 0);
+        machine
+    }
+
+    /// An interleaver whose branches hold `fill`.
+    pub fn interleaver(fill: u8) -> Dvb {
+        Dvb::start(fill, false)
+    }
+
+    /// A deinterleaver whose branches hold `fill`.
+    pub fn deinterleaver(fill: u8) -> Dvb {
+        Dvb::start(fill, true)
+    }
+
+    /// Passes any number of bytes, as many out as in.
+    pub fn feed(&mut self, input: &[u8], out: &mut [u8]) -> Result<(), Refusal> {
+        let call = if self.back { raw::interleaver_dvb_deinterleave } else { raw::interleaver_dvb_interleave };
+        // SAFETY: the slices and the store are live and do not overlap.
+        answer(unsafe { call(&mut self.phase, self.store.as_mut_ptr(), Dvb::STORE, input.as_ptr(), input.len(), out.as_mut_ptr(), out.len()) })
+    }
+}
+
+#[cfg(test)]
+mod tests;

@@ -1,0 +1,139 @@
+// Every function of the wrapper over the archive: refusals, slices left alone, the bits of floats, walks and streams cut into parts.
+use super::*;
+
+fn sets() -> impl Iterator<Item = Set> {
+    let listed = [(1, 1, 12), (1, 6, 1152), (2, 6, 576), (3, 4, 192), (3, 6, 288), (4, 6, 96), (5, 1, 40), (5, 1, 41), (5, 1, 2281), (5, 1, 5114)];
+    listed.into_iter().map(|(profile, bits, n)| Set::new(profile, bits, n).unwrap())
+}
+
+#[test]
+fn a_set_is_tested() {
+    for (number, (profile, bits, n)) in [(1, (0, 4, 192)), (1, (6, 1, 48)), (2, (2, 1, 96)), (3, (3, 4, 96)), (3, (5, 1, 39)), (3, (5, 1, 5115))] {
+        assert_eq!(Set::new(profile, bits, n).unwrap_err() as u32, number);
+    }
+    assert_eq!(Set::new(3, 3, 192).unwrap_err().to_string(), "refused, number 2 (Bits)");
+}
+
+#[test]
+fn addresses_of_document_01() {
+    let set = Set::new(3, 4, 192).unwrap();
+    assert_eq!([0, 1, 16, 17, 191].map(|k| set.target(k).unwrap()), [0, 13, 1, 12, 190]);
+    let set = Set::new(4, 4, 64).unwrap();
+    assert_eq!([4, 5, 6, 7].map(|t| set.source(t).unwrap()), [17, 1, 49, 33]);
+    assert_eq!((set.source(64), set.target(u32::MAX)), (Err(Refusal::Position), Err(Refusal::Position)));
+}
+
+#[test]
+fn walks_cut_into_parts() {
+    for set in sets() {
+        let list = set.sources().unwrap();
+        for (t, &l) in list.iter().enumerate().step_by(97) {
+            assert_eq!(set.source(t as u32), Ok(l as u32));
+            assert_eq!(set.target(l as u32), Ok(t as u32));
+        }
+        let (mut walk, mut joined, mut part) = (Walk::sources(set), Vec::<u16>::new(), [0; 61]);
+        for room in (0..62).cycle() {
+            let before = walk.cell;
+            let Walked { written, cells } = walk.fill(&mut part[..room]).unwrap();
+            assert_eq!(walk.cell, before + cells);
+            joined.extend(&part[..written]);
+            if written < room {
+                break;
+            }
+        }
+        assert_eq!(joined, list);
+        walk.cell += 1;
+        let past = walk;
+        part = [7; 61];
+        assert_eq!(walk.fill(&mut part), Err(Refusal::Record));
+        assert_eq!((walk, part), (past, [7; 61]));
+        match set.targets() {
+            Ok(back) => assert!(back.iter().enumerate().all(|(k, &m)| list[m as usize] as usize == k)),
+            Err(number) => assert_eq!((number, set.profile), (Refusal::Profile, 5)),
+        }
+    }
+}
+
+#[test]
+fn bytes_there_and_back() {
+    for set in sets() {
+        let n = set.size();
+        let src: Vec<u8> = (0..n).map(|i| (i * 31 + i / 251) as u8).collect();
+        let (mut sent, mut received) = (vec![9; n], vec![8; n]);
+        assert_eq!(set.interleave(&src[1..], &mut sent), Err(Refusal::Input));
+        assert_eq!(set.deinterleave(&src, &mut sent[1..]), Err(Refusal::Output));
+        assert_eq!(set.interleave(&[], &mut []), Err(Refusal::Input));
+        assert_eq!(sent, vec![9; n]);
+        set.interleave(&src, &mut sent).unwrap();
+        assert!(set.sources().unwrap().iter().zip(&sent).all(|(&l, &x)| src[l as usize] == x));
+        set.deinterleave(&sent, &mut received).unwrap();
+        assert_eq!(received, src);
+    }
+}
+
+#[test]
+fn symbols_of_every_width() {
+    for set in sets() {
+        for width in 0..10 {
+            let (w, size) = (width as usize, set.size() * width as usize);
+            let src: Vec<u8> = (0..size).map(|i| (i * 31 + i / 251) as u8).collect();
+            let (mut sent, mut received) = (vec![9; size], vec![8; size]);
+            assert_eq!(set.interleave_symbols(width + 1, &src, &mut sent), Err(Refusal::Input));
+            assert_eq!(set.deinterleave_symbols(width, &src, &mut [0]), Err(Refusal::Output));
+            assert_eq!(sent, vec![9; size]);
+            set.interleave_symbols(width, &src, &mut sent).unwrap();
+            for (t, &l) in set.sources().unwrap().iter().enumerate() {
+                assert_eq!(sent[t * w..][..w], src[l as usize * w..][..w]);
+            }
+            set.deinterleave_symbols(width, &sent, &mut received).unwrap();
+            assert_eq!(received, src);
+        }
+    }
+}
+
+#[test]
+fn floats_keep_their_bits() {
+    for set in sets() {
+        let n = set.size();
+        let pattern = |i: u32| match i % 5 {
+            0 => 0x7f80_0001 | i << 4,              // a signalling NaN, with a payload
+            1 => 0xffc0_0000 | i,                   // a quiet one, with its sign
+            2 => 0x8000_0000,                       // minus zero
+            3 => i,                                 // a denormal
+            _ => i.wrapping_mul(2_654_435_761) | 1, // any
+        };
+        let bits: Vec<u32> = (0..n as u32).map(pattern).collect();
+        let src: Vec<f32> = bits.iter().map(|&b| f32::from_bits(b)).collect();
+        let (mut sent, mut received) = (vec![0.5f32; n], vec![0.25f32; n]);
+        assert_eq!(set.interleave_soft(&src, &mut sent[1..]), Err(Refusal::Output));
+        assert_eq!(set.deinterleave_soft(&src[1..], &mut sent), Err(Refusal::Input));
+        assert_eq!(sent, vec![0.5; n]);
+        set.interleave_soft(&src, &mut sent).unwrap();
+        assert!(set.sources().unwrap().iter().zip(&sent).all(|(&l, x)| bits[l as usize] == x.to_bits()));
+        set.deinterleave_soft(&sent, &mut received).unwrap();
+        assert!(received.iter().zip(&bits).all(|(x, &b)| x.to_bits() == b));
+    }
+}
+
+#[test]
+fn a_stream_comes_back_late() {
+    let input: Vec<u8> = (0..30_000u32).map(|i| (i * 31 + i / 251) as u8).collect();
+    let (mut there, mut back) = (Dvb::interleaver(170), Dvb::deinterleaver(170));
+    let (mut sent, mut received) = (vec![0; input.len()], vec![0; input.len()]);
+    for (part, out) in input.chunks(613).zip(sent.chunks_mut(613)) {
+        there.feed(part, out).unwrap();
+    }
+    for (t, &byte) in sent.iter().enumerate() {
+        assert_eq!(byte, t.checked_sub(204 * (t % 12)).map_or(170, |i| input[i]));
+    }
+    for (part, out) in sent.chunks(97).zip(received.chunks_mut(97)) {
+        back.feed(part, out).unwrap();
+    }
+    assert_eq!(received[..Dvb::DELAY], [170; Dvb::DELAY]);
+    assert_eq!(received[Dvb::DELAY..], input[..input.len() - Dvb::DELAY]);
+    let (store, phase, mut out) = (there.store, there.phase, [5; 3]);
+    assert_eq!(there.feed(&[1, 2], &mut out), Err(Refusal::Output));
+    assert_eq!((there.store, there.phase, out), (store, phase, [5; 3]));
+    there.feed(&[], &mut []).unwrap();
+    assert_eq!((there.store, there.phase), (store, phase));
+}
