@@ -1,0 +1,65 @@
+use native.Mathlib.Nat.{mul-le-mul}
+use Prim.Native.Nat.{_*_, _≤_}
+use Rattle.words.specs.Words.{counted}
+use borrow.Author.Needs.{needs}
+use Rattle.filters.proofs.blocked.in_parts.Statement.{statement}
+use Rattle.filters.proofs.blocked.in_parts.Tie as tie
+use Rattle.filters.proofs.blocked.in_parts.Reads as reads
+use Rattle.filters.proofs.blocked.in_parts.Lts as lts
+use Rattle.filters.proofs.blocked.turns.Reads as turns-reads
+
+cast-n : tie.Need-cast-n
+cast-n c = search needs
+
+mul-n : tie.Need-mul-n
+mul-n c =
+    let a = c .before .before .before .args in
+    let z : a .set .n * a .width ≤ 4294967295 * 4294967295 = mul-le-mul {n₂ = 4294967295} {m₂ = 4294967295} (search needs) (search needs) in
+    search (needs, z)
+
+returns : tie.Need-returns
+returns c = search needs
+
+returns-2 : tie.Need-returns-2
+returns-2 c = search needs
+
+slice-relend-prefix-turns : tie.Need-slice-relend-prefix-turns
+slice-relend-prefix-turns c = search needs
+
+slice-aggregate-turns : tie.Need-slice-aggregate-turns
+slice-aggregate-turns c = counted _ _ (search needs)
+
+slice-relend-prefix-turns-2 : tie.Need-slice-relend-prefix-turns-2
+slice-relend-prefix-turns-2 c = search needs
+
+slice-aggregate-turns-2 : tie.Need-slice-aggregate-turns-2
+slice-aggregate-turns-2 c = counted _ _ (search needs)
+
+turns-requires : tie.Need-turns-requires
+turns-requires c κs = search needs
+
+same-length : tie.Need-same-length
+same-length c = search needs
+
+same-length-2 : tie.Need-same-length-2
+same-length-2 c = search needs
+
+returns-3 : tie.Need-returns-3
+returns-3 c = search needs
+
+pub in-parts-spec : {M : Type 1} → statement M
+in-parts-spec =
+    tie.close
+    (tie.spec
+    cast-n
+    mul-n
+    returns
+    returns-2
+    slice-relend-prefix-turns
+    slice-aggregate-turns
+    slice-relend-prefix-turns-2
+    slice-aggregate-turns-2
+    turns-requires
+    same-length
+    same-length-2
+    returns-3)

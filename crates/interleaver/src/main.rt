@@ -1,0 +1,155 @@
+// The command line: words and numbers in, the answers of the proved libraries out. The loops are in the crates below.
+mod asked; // asked.rt: the numbers of a command
+mod told; // told.rt: help, and what was expected
+
+use asked::SetAsked;
+use told::Command;
+use words::line::Line;
+use words::line::ROOM;
+use words::line::word;
+use words::number::Number;
+
+// What a question on a set answers.
+fn answer(c: Command, line: &[u8]) {
+    let SetAsked::Given(set) = asked::set(line) else {
+        return;
+    };
+    match c {
+        Command::Test => pages::lists::test(set),
+        Command::List => pages::lists::list(set),
+        Command::Back => pages::lists::back(set),
+        Command::Picture => pages::picture::picture(set),
+        Command::At => {
+            if let Number::Value(t) = asked::number(line, 4, b"T") {
+                pages::lists::at(set, t);
+            }
+        }
+        Command::To => {
+            if let Number::Value(k) = asked::number(line, 4, b"K") {
+                pages::lists::to(set, k);
+            }
+        }
+        _ => walk(set, line),
+    }
+}
+
+fn walk(set: sets::Set, line: &[u8]) {
+    let Number::Value(cell) = asked::number(line, 4, b"CELL") else {
+        return;
+    };
+    let Number::Value(room) = asked::number(line, 5, b"ROOM") else {
+        return;
+    };
+    pages::lists::walk(set, cell, room);
+}
+
+// Blocks of symbols, standard input to output.
+fn move_blocks(line: &[u8], back: bool) {
+    let SetAsked::Given(set) = asked::set(line) else {
+        return;
+    };
+    if word(line, 4).len() == 0 {
+        filters::blocked::through(set, 1, back);
+        return;
+    }
+    let Number::Value(width) = asked::small_number(line, 4, b"WIDTH", 8, b"8") else {
+        return;
+    };
+    if width == 0 {
+        told::expected(b"WIDTH from 1 to 8, the bytes of a symbol");
+        return;
+    }
+    filters::blocked::through(set, width, back);
+}
+
+// The DVB stream, standard input to output.
+fn move_stream(line: &[u8]) {
+    match told::named(word(line, 1)) {
+        Command::Interleave => fill_stream(line, false),
+        Command::Deinterleave => fill_stream(line, true),
+        _ => told::usage(Command::Dvb),
+    }
+}
+
+fn fill_stream(line: &[u8], back: bool) {
+    let Number::Value(fill) = asked::small_number(line, 2, b"FILL", 255, b"255") else {
+        return;
+    };
+    if fill > 255 {
+        return;
+    }
+    filters::streamed::through(back, fill as u8);
+}
+
+// Answers a question that is in form.
+fn ask(c: Command, line: &[u8]) {
+    match c {
+        Command::Help => told::help(),
+        Command::Profiles => pages::profiles::table(),
+        _ => answer(c, line),
+    }
+}
+
+// Answers each line of standard input. An empty line asks nothing.
+fn answer_lines() {
+    let mut room = [0u8; ROOM];
+    let mut turns = u64::MAX;
+    while turns > 0 {
+        turns -= 1;
+        match words::line::read(&mut room) {
+            Line::Nothing => {
+                return;
+            }
+            Line::Long => told::expected(b"a line shorter than 512 bytes"),
+            Line::Of(n) => answer_first(&room, n),
+        }
+    }
+}
+
+fn answer_first(room: &[u8; ROOM], n: usize) {
+    answer_line(words::line::first(room, n));
+}
+
+fn answer_line(line: &[u8]) {
+    if word(line, 0).len() == 0 {
+        return;
+    }
+    let c = told::named(word(line, 0));
+    match c {
+        Command::Interleave | Command::Deinterleave | Command::Dvb | Command::Lines =>
+            told::expected(b"a question, as lines answers only those"),
+        _ => {
+            if told::in_form(c, line) {
+                ask(c, line);
+            } else {
+                told::usage(c);
+            }
+        }
+    }
+}
+
+// Does what the arguments say.
+fn obey(line: &[u8]) {
+    let c = told::named(word(line, 0));
+    if !told::in_form(c, line) {
+        told::usage(c);
+        return;
+    }
+    match c {
+        Command::Lines => answer_lines(),
+        Command::Interleave => move_blocks(line, false),
+        Command::Deinterleave => move_blocks(line, true),
+        Command::Dvb => move_stream(line),
+        _ => ask(c, line),
+    }
+}
+
+fn begin(room: &[u8; ROOM], n: usize) {
+    obey(words::line::first(room, n));
+}
+
+fn main() {
+    let mut room = [0u8; ROOM];
+    let n = words::arguments::join(&mut room);
+    begin(&room, n);
+}

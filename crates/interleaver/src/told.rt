@@ -1,0 +1,138 @@
+// The commands by name, help, and the one line that says what was expected.
+use check::same;
+use libc::STDERR_FILENO;
+use libc::STDOUT_FILENO;
+use words::line::word;
+
+// What the first word asks for.
+pub enum Command {
+    Help,
+    Test,
+    Profiles,
+    List,
+    Back,
+    At,
+    To,
+    Walk,
+    Picture,
+    Lines,
+    Interleave,
+    Deinterleave,
+    Dvb,
+    Unknown,
+}
+
+// The command of a name. No word at all asks for help.
+pub fn named(w: &[u8]) -> Command {
+    if w.len() == 0 {
+        return Command::Help;
+    }
+    if same(w, b"help") | (same(w, b"--help") | same(w, b"-h")) {
+        return Command::Help;
+    }
+    if same(w, b"test") {
+        return Command::Test;
+    }
+    if same(w, b"profiles") {
+        return Command::Profiles;
+    }
+    if same(w, b"list") {
+        return Command::List;
+    }
+    if same(w, b"back") {
+        return Command::Back;
+    }
+    if same(w, b"at") {
+        return Command::At;
+    }
+    if same(w, b"to") {
+        return Command::To;
+    }
+    if same(w, b"walk") {
+        return Command::Walk;
+    }
+    if same(w, b"picture") {
+        return Command::Picture;
+    }
+    if same(w, b"lines") {
+        return Command::Lines;
+    }
+    moving(w)
+}
+
+fn moving(w: &[u8]) -> Command {
+    if same(w, b"interleave") {
+        return Command::Interleave;
+    }
+    if same(w, b"deinterleave") {
+        return Command::Deinterleave;
+    }
+    if same(w, b"dvb") {
+        return Command::Dvb;
+    }
+    Command::Unknown
+}
+
+// Whether a line has just n words.
+fn has(line: &[u8], n: usize) -> bool {
+    (word(line, n).len() == 0) & ((n == 0) | (word(line, before(n)).len() > 0))
+}
+
+fn before(n: usize) -> usize {
+    if n > 0 { n - 1 } else { 0 }
+}
+
+// Whether a line has the words that its command takes.
+pub fn in_form(c: Command, line: &[u8]) -> bool {
+    match c {
+        Command::Help => has(line, 0) | has(line, 1),
+        Command::Profiles | Command::Lines => has(line, 1),
+        Command::Dvb => has(line, 3),
+        Command::At | Command::To => has(line, 5),
+        Command::Walk => has(line, 6),
+        Command::Interleave | Command::Deinterleave => has(line, 4) | has(line, 5),
+        Command::Unknown => false,
+        _ => has(line, 4),
+    }
+}
+
+// Says s on standard error.
+pub fn say(s: &[u8]) {
+    io::write_all(STDERR_FILENO, s);
+}
+
+// What was expected, in a line.
+pub fn expected(what: &[u8]) {
+    say(b"interleaver: expected ");
+    say(what);
+    say(b"\n");
+}
+
+// The form of a command.
+pub fn usage(c: Command) {
+    match c {
+        Command::Help => expected(b"help"),
+        Command::Test => expected(b"test PROFILE BITS N"),
+        Command::Profiles => expected(b"profiles"),
+        Command::List => expected(b"list PROFILE BITS N"),
+        Command::Back => expected(b"back PROFILE BITS N"),
+        Command::At => expected(b"at PROFILE BITS N T"),
+        Command::To => expected(b"to PROFILE BITS N K"),
+        Command::Walk => expected(b"walk PROFILE BITS N CELL ROOM"),
+        Command::Picture => expected(b"picture PROFILE BITS N"),
+        Command::Lines => expected(b"lines"),
+        Command::Interleave => expected(b"interleave PROFILE BITS N [WIDTH]"),
+        Command::Deinterleave => expected(b"deinterleave PROFILE BITS N [WIDTH]"),
+        Command::Dvb => expected(b"dvb interleave FILL or dvb deinterleave FILL"),
+        Command::Unknown => expected(
+            b"one of help, test, profiles, list, back, at, to, walk, picture, lines, interleave, deinterleave, dvb",
+        ),
+    }
+}
+
+pub fn help() {
+    words::text::write(
+        STDOUT_FILENO,
+        b"interleaver: block interleavers of IEEE 802.11a, IEEE 802.16 and 3GPP WCDMA, and the DVB byte stream.\n\nQuestions, answered on standard output; a refusal is a line such as `refused 3`:\n  test PROFILE BITS N             accepted, or the refusal\n  profiles                        what each profile admits, as a table\n  list PROFILE BITS N             L: for each output position its input index, one a line\n  back PROFILE BITS N             M: for each input index its output position (profiles 1 to 4)\n  at PROFILE BITS N T             L(T): the input index that output T holds\n  to PROFILE BITS N K             M(K): the output position of input K\n  walk PROFILE BITS N CELL ROOM   at most ROOM entries of L from a cell on, then a line\n                                  `written W next C cells E`; go on with CELL = C\n  picture PROFILE BITS N          the permutation as an SVG\n  lines                           the same, a question a line, from standard input\n                                  (each line shorter than 512 bytes)\n\nFilters, standard input to standard output:\n  interleave PROFILE BITS N [WIDTH]     block after block of N symbols of WIDTH bytes (1 to 8; left out, 1);\n  deinterleave PROFILE BITS N [WIDTH]   an f32 is 4, moved bit for bit. A short last block: `refused 5`\n                                        on standard error, and nothing of it is written\n  dvb interleave FILL                   a byte stream, in a machine that starts with FILL (0 to 255);\n  dvb deinterleave FILL                 out as long as in: through both, it comes back\n                                        2,244 bytes late, and the last 2,244 stay inside\n\nRefusals: 1 profile, 2 bits, 3 N not listed; 4 position N or more; 5 input of another length; 9 cell past\nthe end. Exit status: 0, also where a question is answered by a refusal; 1 where anything was said on standard\nerror; 2 where the program cannot be built.\n\nExamples:\n  ./interleaver at 3 4 192 13                                   prints 1: output 13 holds input 1\n  ./interleaver picture 3 6 288 > wlan.svg                      a picture of IEEE 802.11a's 64-QAM block\n  ./interleaver interleave 3 6 288 < samples/bulletin.txt | ./interleaver deinterleave 3 6 288\n",
+    );
+}

@@ -1,0 +1,33 @@
+use Rattle.words.specs.Words.{counted}
+use borrow.Author.Needs.{needs}
+use Rattle.pages.proofs.lists.walk.Statement.{statement}
+use Rattle.pages.proofs.lists.walk.Tie as tie
+use Rattle.pages.proofs.lists.walk.Reads as reads
+use Rattle.pages.proofs.lists.walk.Lts as lts
+use Rattle.pages.proofs.lists.least.Reads as least-reads
+use Rattle.pages.proofs.lists.walk_into.Reads as walk-into-reads
+
+least-requires : tie.Need-least-requires
+least-requires c κs = search needs
+
+array-borrow-prefix-table : tie.Need-array-borrow-prefix-table
+array-borrow-prefix-table c = search needs
+
+slice-aggregate-walk-into : tie.Need-slice-aggregate-walk-into
+slice-aggregate-walk-into c = counted _ _ (search needs)
+
+walk-into-requires : tie.Need-walk-into-requires
+walk-into-requires c κs = search needs
+
+returns : tie.Need-returns
+returns c = search needs
+
+pub walk-spec : {M : Type 1} → statement M
+walk-spec =
+    tie.close
+    (tie.spec
+    least-requires
+    array-borrow-prefix-table
+    slice-aggregate-walk-into
+    walk-into-requires
+    returns)

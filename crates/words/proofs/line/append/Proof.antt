@@ -1,0 +1,60 @@
+use borrow.Author.Needs.{needs}
+use Prim.Native.Nat.{_≤_, _-_}
+use lib.ListN.{length}
+use Rattle.words.proofs.line.append.Statement.{statement}
+use Rattle.words.proofs.line.append.Tie as tie
+use Rattle.words.proofs.line.append.Reads as reads
+use Rattle.words.proofs.line.append.Lts as lts
+
+abbrev Inv-loop : tie.InvT-loop
+Inv-loop room₀ from s at₀ i₀ room at i = i ≤ length s
+
+abbrev μ-loop : tie.MeasureT-loop
+μ-loop room₀ from s at₀ i₀ room at i = length s - i
+
+loop-holds : tie.Need-loop-holds Inv-loop μ-loop
+loop-holds c = search needs
+
+returns : tie.Need-returns Inv-loop μ-loop
+returns c = search needs
+
+shared-slice-read-room : tie.Need-shared-slice-read-room Inv-loop μ-loop
+shared-slice-read-room c = search needs
+
+element-write-room : tie.Need-element-write-room Inv-loop μ-loop
+element-write-room c = search needs
+
+add-at : tie.Need-add-at Inv-loop μ-loop
+add-at c = search needs
+
+add-i : tie.Need-add-i Inv-loop μ-loop
+add-i c = search needs
+
+loop-less : tie.Need-loop-less Inv-loop μ-loop
+loop-less c = search needs
+
+loop-again : tie.Need-loop-again Inv-loop μ-loop
+loop-again c = search needs
+
+returns-2 : tie.Need-returns-2 Inv-loop μ-loop
+returns-2 c = search needs
+
+returns-3 : tie.Need-returns-3 Inv-loop μ-loop
+returns-3 c = search needs
+
+pub append-spec : {M : Type 1} → statement M
+append-spec =
+    tie.close
+    (tie.spec
+    Inv-loop
+    μ-loop
+    loop-holds
+    returns
+    shared-slice-read-room
+    element-write-room
+    add-at
+    add-i
+    loop-less
+    loop-again
+    returns-2
+    returns-3)

@@ -1,0 +1,4 @@
+pub mod Decimal
+pub mod Room
+pub mod Spelled
+pub mod Words
