@@ -1,0 +1,48 @@
+/* What the two plain C's offer, in the same call shapes as the proved library: `divide_` works each address or byte out by document 01's
+   formula, `step_` keeps counters. Neither tests its input. `_written_out` is the same C with d and s as constants of the compiler. */
+#ifndef PLAIN_H
+#define PLAIN_H
+
+#ifdef NO_HEADERS /* the kit has a compiler and a C library, and no headers */
+typedef __UINT8_TYPE__ uint8_t;
+typedef __UINT16_TYPE__ uint16_t;
+typedef __UINT32_TYPE__ uint32_t;
+typedef __SIZE_TYPE__ size_t;
+#define offsetof(type, part) __builtin_offsetof(type, part)
+struct timespec { long tv_sec, tv_nsec; };
+enum { CLOCK_PROCESS_CPUTIME_ID = 2 };
+int clock_gettime(int, struct timespec *);
+int printf(const char *, ...);
+int snprintf(char *, size_t, const char *, ...);
+int atoi(const char *);
+int strcmp(const char *, const char *);
+void *memcpy(void *, const void *, size_t);
+void *memset(void *, int, size_t);
+#else
+#include <stddef.h>
+#include <stdint.h>
+#include <stdio.h>
+#include <stdlib.h>
+#include <string.h>
+#include <time.h>
+#endif
+
+#define INLINE static inline __attribute__((always_inline))
+
+struct set { uint32_t profile, bits, n; };
+
+/* From *cell on, as far as there is room and cells; moves *cell on, and says how many addresses were written and cells examined. */
+typedef uint32_t walk_call(const struct set *, uint32_t *cell, uint16_t *out, size_t room, uint32_t *written, uint32_t *cells);
+walk_call divide_walk, divide_walk_written_out, step_walk, step_walk_written_out;
+
+/* dst[t] = src[L(t)], of bytes or of f32. */
+typedef uint32_t move_call(const struct set *, const void *src, size_t, void *dst, size_t);
+move_call divide_bytes, divide_soft, step_bytes, step_soft;
+
+/* A DVB feed. What the record holds is each side's own: the phase, or for `step_` the ring to come and a place for each ring. */
+enum { STORE = 1122, RECORD = 12 };
+typedef uint32_t feed_call(uint32_t *record, uint8_t *store, size_t, const uint8_t *in, size_t, uint8_t *out, size_t);
+feed_call divide_interleave, divide_deinterleave, step_interleave, step_deinterleave;
+void step_start(uint32_t *record, int back);
+
+#endif
