@@ -1,4 +1,5 @@
-// The command line: words and numbers in, the answers of the proved libraries out. The loops are in the crates below.
+// The command line: words and numbers in, the answers of the proved libraries out. The one loop here is over the
+// questions of `lines`; the others are in the crates below.
 mod asked; // asked.rt: the numbers of a command
 mod told; // told.rt: help, and what was expected
 
@@ -75,6 +76,7 @@ fn fill_stream(line: &[u8], back: bool) {
     let Number::Value(fill) = asked::small_number(line, 2, b"FILL", 255, b"255") else {
         return;
     };
+    // (never so: asked again for the cast)
     if fill > 255 {
         return;
     }
