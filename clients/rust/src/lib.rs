@@ -35,25 +35,17 @@ mod raw {
         pub fn interleaver_interleave_symbols(set: &Set, width: u32, src: *const u8, src_len: usize, dst: *mut u8, dst_len: usize) -> u32;
         pub fn interleaver_deinterleave_symbols(set: &Set, width: u32, src: *const u8, src_len: usize, dst: *mut u8, dst_len: usize) -> u32;
         pub fn interleaver_dvb_start(store: *mut u8, store_len: usize, fill: u8, phase: &mut u32) -> u32;
-        pub fn interleaver_dvb_interleave(
-            phase: &mut u32,
-            store: *mut u8,
-            store_len: usize,
-            input: *const u8,
-            input_len: usize,
-            out: *mut u8,
-            out_len: usize,
-        ) -> u32;
-        pub fn interleaver_dvb_deinterleave(
-            phase: &mut u32,
-            store: *mut u8,
-            store_len: usize,
-            input: *const u8,
-            input_len: usize,
-            out: *mut u8,
-            out_len: usize,
-        ) -> u32;
     }
+
+    // The two feeds, which differ in a name.
+    macro_rules! feeds {
+        ($($name:ident),*) => {
+            extern "C" {
+                $(pub fn $name(phase: &mut u32, store: *mut u8, store_len: usize, input: *const u8, input_len: usize, out: *mut u8, out_len: usize) -> u32;)*
+            }
+        };
+    }
+    feeds!(interleaver_dvb_interleave, interleaver_dvb_deinterleave);
 }
 
 /// Why a call was refused, in the numbers of the calls for C.

@@ -1,5 +1,6 @@
 // Standard input to standard output: blocks of symbols, and the DVB stream. A turn of each loop is a function of its own, over slices that are
-// lent once. Each loop ends by a budget that counts down from the largest u64, which no input meets.
+// lent once. The loops over the input end by a budget that counts down from the largest u64, which no input meets; a
+// block's, by its length.
 pub mod blocked; // blocked.rt: block after block
 pub mod streamed; // streamed.rt: the stream, in whatever lengths reads give
 
