@@ -13,7 +13,7 @@ use Rattle.sets.specs.declared.Set.{Set}
 use Rattle.sets.specs.declared.Refusal.{Refusal}
 use Rattle.sets.specs.Verdict.{refusal}
 use Rattle.walks.specs.Answer.{planLines}
-use Rattle.walks.specs.Lists.{source}
+use Rattle.walks.specs.Rules.{L}
 use Rattle.blocks.specs.declared.Moved.{Moved}
 use Rattle.blocks.specs.declared.Moved.the-variants.{Done, Refused}
 
@@ -42,8 +42,8 @@ moves-apart (Refused x) (Refused y) e = let q : x ≡ y = cc in ap Refused q
 module _ {A : Type 0} (s : Set) (z : A) (src dst : List A) where
   -- the output after interleaving: out[t] = in[L(t)]. z stands in for what an input of N symbols does not lack
   unfoldable pub interleaved : List A
-  interleaved = after (blockLines s (length src) (length dst)) (gather (source s) (s .n) z src) dst
+  interleaved = after (blockLines s (length src) (length dst)) (gather (L s) (s .n) z src) dst
 
   -- and after deinterleaving: out[L(t)] = in[t]
   unfoldable pub deinterleaved : List A
-  deinterleaved = after (blockLines s (length src) (length dst)) (scatter (source s) (s .n) z src dst) dst
+  deinterleaved = after (blockLines s (length src) (length dst)) (scatter (L s) (s .n) z src dst) dst

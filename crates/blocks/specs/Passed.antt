@@ -5,18 +5,16 @@ use mathlib.Core.Path.{_≡_, refl, sym, ap, _∙_}
 use native.Mathlib.Omega.{arith}
 use lib.Dec.{eqb}
 use lib.ListN.{length}
-use borrow.Author.Tests.{eq-eqb, ne-eqb, eqb-true, eqb-false, not-false}
+use borrow.Author.Tests.{eq-eqb, ne-eqb, eqb-true, not-false}
 use Rattle.laws.specs.Outcome.{done, refused, Ruling, clear, stopped, first, settle, judged, after, clear-then, clear-back, first-clear, stopped-front, answer-keeps, answer-clear, never}
 use Rattle.laws.specs.Move.{gather, scatter, gather-same, scatter-same}
 use Rattle.laws.specs.Loop.{by, Within}
 use Rattle.sets.specs.declared.Set.{Set}
 use Rattle.sets.specs.declared.Refusal.{Refusal}
 use Rattle.sets.specs.Verdict.{refusal, verdictOf}
-use Rattle.sets.specs.Carried.{carried}
-use Rattle.walks.specs.Course.{courseL}
+use Rattle.walks.specs.Rules.{ruleL, L}
 use Rattle.walks.specs.Answer.{planLines, walkLines, walkSlice, Values}
-use Rattle.walks.specs.Lists.{source, each-once, by-kind}
-use Rattle.walks.specs.ByTurbo.{size-of}
+use Rattle.walks.specs.Lists.{each-once}
 use Rattle.walks.specs.Whole.{begin, begin-lines, plan-accepted, table-is}
 use Rattle.blocks.specs.declared.Moved.{Moved}
 use Rattle.blocks.specs.declared.Moved.the-variants.{Done, Refused}
@@ -68,7 +66,7 @@ module _ (s : Set) (i o : ℕ) (p : first (planLines s) ≡ clear) where
 -- a table holds L, and has room for it
 pub record Tabled (s : Set) (table : List ℕ) : Type 0 where
   pub room : s .n ≤ length table
-  pub holds : (k : ℕ) → k < s .n → by table k ≡ source s k
+  pub holds : (k : ℕ) → k < s .n → by table k ≡ L s k
   pub within : Within table (s .n) (s .n)
 
 -- what planning a block gives: the answer of the call, and, where no line applies, the table
@@ -79,14 +77,14 @@ pub record Planned (s : Set) (i o size : ℕ) (table : List ℕ) (r : Moved) : T
 
 -- the table that the walk filled
 module _ (s : Set) (old : List ℕ) {table : List ℕ} (p : first (planLines s) ≡ clear) (room : Roomy s old)
-    (t : table ≡ after (walkLines (begin s)) (walkSlice courseL (begin s) old) old) where
+    (t : table ≡ after (walkLines (begin s)) (walkSlice ruleL (begin s) old) old) where
   accepted : verdictOf s ≡ done tt
   accepted = plan-accepted s p
 
-  filled : table ≡ walkSlice courseL (begin s) old
+  filled : table ≡ walkSlice ruleL (begin s) old
   filled = t ∙ rw (begin-lines s ∙ p)
 
-  holds : (k : ℕ) → k < s .n → by table k ≡ source s k
+  holds : (k : ℕ) → k < s .n → by table k ≡ L s k
   holds k l = ap (λ (x : List ℕ). by x k) filled ∙ table-is s old accepted (room accepted) k l
 
   pub tabled-by : length table ≡ length old → Tabled s table
@@ -94,11 +92,11 @@ module _ (s : Set) (old : List ℕ) {table : List ℕ} (p : first (planLines s) 
 
 -- moving by such a table is moving by L
 module _ {s : Set} {table : List ℕ} (t : Tabled s table) {A : Type 0} (z : A) (src : List A) where
-  pub gather-as : gather (by table) (s .n) z src ≡ gather (source s) (s .n) z src
-  gather-as = gather-same (by table) (source s) (s .n) z src (t .holds)
+  pub gather-as : gather (by table) (s .n) z src ≡ gather (L s) (s .n) z src
+  gather-as = gather-same (by table) (L s) (s .n) z src (t .holds)
 
-  pub scatter-as : (dst : List A) → scatter (by table) (s .n) z src dst ≡ scatter (source s) (s .n) z src dst
-  scatter-as dst = scatter-same (by table) (source s) (s .n) z src dst (t .holds)
+  pub scatter-as : (dst : List A) → scatter (by table) (s .n) z src dst ≡ scatter (L s) (s .n) z src dst
+  scatter-as dst = scatter-same (by table) (L s) (s .n) z src dst (t .holds)
 
 -- planning, return by return
 module _ {s : Set} {i o size : ℕ} {table : List ℕ} (same : length table ≡ size) where
@@ -147,19 +145,12 @@ module _ {s : Set} {i o size : ℕ} {table : List ℕ} {r : Moved} (p : Planned 
         let t = p .tabled all-clear in
         (omega (arith, t .room, l .0), λ k h. rw (l .1) (t .within k (omega (arith, l .0))))
 
-    pub gather-output : {A : Type 0} (z : A) (src old : List A) → gather (by table) o z src ≡ after (blockLines s i o) (gather (source s) (s .n) z src) old
+    pub gather-output : {A : Type 0} (z : A) (src old : List A) → gather (by table) o z src ≡ after (blockLines s i o) (gather (L s) (s .n) z src) old
     gather-output z src old =
         let l = lengths-are s i o all-clear in
         rw all-clear (ap (λ (m : ℕ). gather (by table) m z src) (l .1) ∙ gather-as (p .tabled all-clear) z src)
 
-    pub scatter-output : {A : Type 0} (z : A) (src old : List A) → scatter (by table) i z src old ≡ after (blockLines s i o) (scatter (source s) (s .n) z src old) old
+    pub scatter-output : {A : Type 0} (z : A) (src old : List A) → scatter (by table) i z src old ≡ after (blockLines s i o) (scatter (L s) (s .n) z src old) old
     scatter-output z src old =
         let l = lengths-are s i o all-clear in
         rw all-clear (ap (λ (m : ℕ). scatter (by table) m z src old) (l .0) ∙ scatter-as (p .tabled all-clear) z src old)
-
--- the largest table has room for every set
-pub sizes-small : (s : Set) → verdictOf s ≡ done tt → s .n ≤ 6144
-sizes-small s e =
-    by-kind (λ s. s .n ≤ 6144) s e
-    (λ t. omega (arith, carried s e (eqb-false (s .profile) 5 (t .which)) .small))
-    (λ t. omega (arith, size-of t .high))

@@ -1,6 +1,8 @@
 -- The carrier interleaver of IEEE 802.11a and IEEE 802.16 (OFDM and OFDMA), as document 01 writes it: equations (1) and (2) of source
 -- 000, and back (3) and (4). Over any d, N and s; / is whole division. Assumes nothing: these are definitions.
 use Prim.Native.Nat.{ℕ, _+_, _-_, _*_, _/_, _%_}
+use mathlib.Core.Bool.{false}
+use Rattle.laws.specs.Walk.{Rule}
 
 -- (1), the first permutation: m = (N/d)·(k mod d) + k/d
 unfoldable pub firstStep : ℕ → ℕ → ℕ → ℕ
@@ -25,3 +27,7 @@ lastStep d n m = d * m - (n - 1) * (d * m / n)
 -- L(t): output t holds input L(t)
 unfoldable pub carrierL : ℕ → ℕ → ℕ → ℕ → ℕ
 carrierL d n s t = lastStep d n (backStep d n s t)
+
+-- the rule of a block: a cell is an output position, no cell is padding, and nothing is searched for
+abbrev pub carrierRule : ℕ → ℕ → ℕ → Rule
+carrierRule d n s = record { total = n; address = carrierL d n s; l = carrierL d n s; m = carrierM d n s; fails = false }

@@ -1,19 +1,31 @@
 -- Each index is used once: for every d, N and s with N a positive multiple of d and N/d a multiple of s, L and M undo each other below N,
 -- and no subtraction of the formulas stops at 0. Assumes nothing.
 use mathlib.Core.Path.{sym, subst}
-use Prim.Native.Nat.{ℕ, _+_, _-_, _*_, _/_, _≤_}
+use Prim.Native.Nat.{ℕ, _+_, _-_, _*_, _/_, _≤_, _<_}
 use native.Mathlib.Nat.{mul-le-mul-right, div-le-of-le-mul, mul-div-le}
 use native.Mathlib.Omega.{arith}
+use borrow.Author.Tests.{lt-ltb}
 use Rattle.laws.specs.Digits.{less-one}
 use Rattle.laws.specs.Sized.{Sized, groups-pos, d-le}
 use Rattle.laws.specs.Perm.{Perm}
-use Rattle.carrier.specs.Formula.{carrierM, carrierL}
+use Rattle.laws.specs.Once.{inside}
+use Rattle.laws.specs.Bare.{keep-bare}
+use Rattle.laws.specs.Walk.{Lawful}
+use Rattle.carrier.specs.Formula.{carrierM, carrierL, carrierRule}
 use Rattle.carrier.specs.Steps.{digits-perm}
 
 module _ {d n s : ℕ} (z : Sized d n s) where
   pub carrier-once : Perm n (carrierL d n s) (carrierM d n s)
   carrier-once =
       subst (λ (n : ℕ). Perm n (carrierL d n s) (carrierM d n s)) (sym (z .whole)) (digits-perm d s (z .groups) (z .d-pos) (z .s-pos) (groups-pos z))
+
+  -- the laws of the family
+  pub carrier-lawful : n < 65536 → Lawful n (carrierRule d n s)
+  carrier-lawful h = record {
+    perm = carrier-once;
+    list = keep-bare (carrierL d n s) (inside n) 0 n (λ x l o. lt-ltb (carrierL d n s x) n (carrier-once .l-below x (omega arith)));
+    small = h;
+  }
 
   -- the differences of (2) and (4) are never below 0
   pub turn-fits : (m : ℕ) → d * m / n ≤ m + n

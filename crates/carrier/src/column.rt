@@ -1,11 +1,14 @@
 // M: one address, and the walk, a column of the input at a time.
 use super::least;
+use laws::Leaf;
+use laws::Single;
 ghost use mathlib.Core.Path.{_≡_};
 ghost use Prim.Native.Nat.{ℕ, _+_, _/_, _%_, _<_};
 ghost use Rattle.laws.specs.Sized.{Sized};
 ghost use Rattle.laws.specs.Lanes.{Ran};
-ghost use Rattle.carrier.specs.Formula.{carrierM};
-ghost use Rattle.carrier.specs.Block.{Block};
+ghost use Rattle.laws.specs.Walk.{back, LeafOf, SingleOf};
+ghost use Rattle.carrier.specs.Formula.{carrierM, carrierRule};
+ghost use Rattle.carrier.specs.Block.{Block, Whole};
 ghost use Rattle.carrier.specs.Column.{ColumnAt, ColumnIn, ColumnStep};
 ghost use Rattle.carrier.specs.Down.{DownIn, Down};
 
@@ -108,7 +111,7 @@ fn down(
 }
 
 // M(k), for k below N.
-pub fn address(d: usize, n: usize, s: usize, k: usize) -> usize
+fn address(d: usize, n: usize, s: usize, k: usize) -> usize
     requires { ⌜ Block d n s k ⌝ }
     requires { ⌜ k < n ⌝ }
     ensures { λ r. ⌜ r ≡ carrierM d n s k ⌝ }
@@ -120,7 +123,7 @@ pub fn address(d: usize, n: usize, s: usize, k: usize) -> usize
 }
 
 // Writes M from a cell on, as far as there is room and cells; gives back how many.
-pub fn walk(d: usize, n: usize, s: usize, cell: usize, out: &mut [u16]) -> usize
+fn write(d: usize, n: usize, s: usize, cell: usize, out: &mut [u16]) -> usize
     requires { ⌜ Block d n s cell ⌝ }
     ensures { λ r. ⌜ Ran (carrierM d n s) n cell (now (out .entry)) (now (out .exit)) r ⌝ }
 {
@@ -139,4 +142,30 @@ pub fn walk(d: usize, n: usize, s: usize, cell: usize, out: &mut [u16]) -> usize
         i = stop;
     }
     count
+}
+
+// The walk for M from any cell: 9 past the last, else what is written, and a cell for each address.
+pub fn walk(d: usize, n: usize, s: usize, cell: usize, out: &mut [u16]) -> Leaf
+    requires { ⌜ Whole d n s ⌝ }
+    ensures { λ r. ⌜ LeafOf n (back n (carrierRule d n s)) cell (now (out .entry)) (now (out .exit)) r ⌝ }
+{
+    if n < cell {
+        return Leaf::Stopped(9);
+    }
+    let count = write(d, n, s, cell, out);
+    Leaf::Went {
+        written: count,
+        cells: count,
+    }
+}
+
+// M at any position: 4 past the last.
+pub fn one(d: usize, n: usize, s: usize, k: usize) -> Single
+    requires { ⌜ Whole d n s ⌝ }
+    ensures { λ r. ⌜ SingleOf n (carrierRule d n s) (carrierM d n s) k r ⌝ }
+{
+    if n <= k {
+        return Single::Barred(4);
+    }
+    Single::At(address(d, n, s, k))
 }

@@ -1,11 +1,14 @@
 // L: one address, and the walk, a row of the output at a time.
 use super::least;
+use laws::Leaf;
+use laws::Single;
 ghost use mathlib.Core.Path.{_≡_};
 ghost use Prim.Native.Nat.{ℕ, _+_, _-_, _*_, _/_, _%_, _<_};
 ghost use Rattle.laws.specs.Sized.{Sized};
 ghost use Rattle.laws.specs.Lanes.{Ran};
-ghost use Rattle.carrier.specs.Formula.{carrierL};
-ghost use Rattle.carrier.specs.Block.{Block};
+ghost use Rattle.laws.specs.Walk.{LeafOf, SingleOf};
+ghost use Rattle.carrier.specs.Formula.{carrierL, carrierRule};
+ghost use Rattle.carrier.specs.Block.{Block, Whole};
 ghost use Rattle.carrier.specs.Row.{RowAt, RowIn, RowStep};
 ghost use Rattle.carrier.specs.Along.{AlongIn, Along};
 
@@ -140,7 +143,7 @@ fn along(
 }
 
 // L(t), for t below N.
-pub fn address(d: usize, n: usize, s: usize, t: usize) -> usize
+fn address(d: usize, n: usize, s: usize, t: usize) -> usize
     requires { ⌜ Block d n s t ⌝ }
     requires { ⌜ t < n ⌝ }
     ensures { λ r. ⌜ r ≡ carrierL d n s t ⌝ }
@@ -152,7 +155,7 @@ pub fn address(d: usize, n: usize, s: usize, t: usize) -> usize
 }
 
 // Writes L from a cell on, as far as there is room and cells; gives back how many.
-pub fn walk(d: usize, n: usize, s: usize, cell: usize, out: &mut [u16]) -> usize
+fn write(d: usize, n: usize, s: usize, cell: usize, out: &mut [u16]) -> usize
     requires { ⌜ Block d n s cell ⌝ }
     ensures { λ r. ⌜ Ran (carrierL d n s) n cell (now (out .entry)) (now (out .exit)) r ⌝ }
 {
@@ -173,4 +176,30 @@ pub fn walk(d: usize, n: usize, s: usize, cell: usize, out: &mut [u16]) -> usize
         i = stop;
     }
     count
+}
+
+// The walk for L from any cell: 9 past the last, else what is written, and a cell for each address.
+pub fn walk(d: usize, n: usize, s: usize, cell: usize, out: &mut [u16]) -> Leaf
+    requires { ⌜ Whole d n s ⌝ }
+    ensures { λ r. ⌜ LeafOf n (carrierRule d n s) cell (now (out .entry)) (now (out .exit)) r ⌝ }
+{
+    if n < cell {
+        return Leaf::Stopped(9);
+    }
+    let count = write(d, n, s, cell, out);
+    Leaf::Went {
+        written: count,
+        cells: count,
+    }
+}
+
+// L at any position: 4 past the last.
+pub fn one(d: usize, n: usize, s: usize, t: usize) -> Single
+    requires { ⌜ Whole d n s ⌝ }
+    ensures { λ r. ⌜ SingleOf n (carrierRule d n s) (carrierL d n s) t r ⌝ }
+{
+    if n <= t {
+        return Single::Barred(4);
+    }
+    Single::At(address(d, n, s, t))
 }

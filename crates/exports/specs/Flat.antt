@@ -8,8 +8,7 @@ use Rattle.sets.specs.declared.Set.{Set}
 use Rattle.sets.specs.declared.Refusal.{Refusal}
 use Rattle.sets.specs.Verdict.{refusal}
 use Rattle.walks.specs.declared.Walk.{Walk}
-use Rattle.walks.specs.Course.{courseL, courseM}
-use Rattle.walks.specs.Lists.{source, target}
+use Rattle.walks.specs.Rules.{ruleL, ruleM, L, M}
 use Rattle.walks.specs.Answer.{Values, walkLines, backLines, oneLines, walkValues}
 use Rattle.streams.specs.declared.Stream.{Stream}
 use Rattle.streams.specs.Answers.{startLines, feedLines}
@@ -47,16 +46,16 @@ outOf (refused x) part old = old
 -- what the calls that are served have to say
 
 unfoldable pub foundL : Set → ℕ → Outcome Refusal ℕ
-foundL s t = judged (refusal s) (oneLines s t) (source s t)
+foundL s t = judged (refusal s) (oneLines s t) (L s t)
 
 unfoldable pub foundM : Set → ℕ → Outcome Refusal ℕ
-foundM s k = judged (refusal s) (oneLines s k) (target s k)
+foundM s k = judged (refusal s) (oneLines s k) (M s k)
 
 unfoldable pub walkedL : Walk → ℕ → Outcome Refusal Values
-walkedL w room = judged (refusal (w .set)) (walkLines w) (walkValues courseL w room)
+walkedL w room = judged (refusal (w .set)) (walkLines w) (walkValues ruleL w room)
 
 unfoldable pub walkedM : Walk → ℕ → Outcome Refusal Values
-walkedM w room = judged (refusal (w .set)) (backLines w) (walkValues courseM w room)
+walkedM w room = judged (refusal (w .set)) (backLines w) (walkValues ruleM w room)
 
 unfoldable pub startedOf : {A : Type 0} → List A → Outcome ℕ Stream
 startedOf store = judged (λ (k : ℕ). k) (startLines store) startRecord

@@ -10,8 +10,7 @@ use Rattle.laws.specs.Outcome.{done, refused, Line, Ruling, clear, stopped, fir
 use Rattle.sets.specs.declared.Set.{Set}
 use Rattle.sets.specs.Verdict.{setLines, verdictOf, refusal, refusal-number}
 use Rattle.walks.specs.declared.Walk.{Walk}
-use Rattle.walks.specs.Course.{courseL, courseM}
-use Rattle.walks.specs.Lists.{source, target}
+use Rattle.walks.specs.Rules.{ruleL, ruleM, L, M}
 use Rattle.walks.specs.Answer.{planLines, walkLines, backLines, oneLines, walkValues}
 use Rattle.blocks.specs.Answer.{blockLines, movedOf}
 use Rattle.symbols.specs.Answer.{symbolLines, movedSymbols}
@@ -104,13 +103,13 @@ module _ (s : Set) where
   unfolding verdictOf
   test-zero = zero-is-done (λ x. x .number) (refusal s) (refusal-number s) (setLines s) tt (set-numbered s)
 
-  pub address-l-zero : (t : ℕ) → (numberOf (foundL s t) ≡ 0) ↔ (foundL s t ≡ done (source s t))
+  pub address-l-zero : (t : ℕ) → (numberOf (foundL s t) ≡ 0) ↔ (foundL s t ≡ done (L s t))
   unfolding foundL
-  address-l-zero t = zero-is-done (λ x. x .number) (refusal s) (refusal-number s) (oneLines s t) (source s t) (one-numbered s t)
+  address-l-zero t = zero-is-done (λ x. x .number) (refusal s) (refusal-number s) (oneLines s t) (L s t) (one-numbered s t)
 
-  pub address-m-zero : (k : ℕ) → (numberOf (foundM s k) ≡ 0) ↔ (foundM s k ≡ done (target s k))
+  pub address-m-zero : (k : ℕ) → (numberOf (foundM s k) ≡ 0) ↔ (foundM s k ≡ done (M s k))
   unfolding foundM
-  address-m-zero k = zero-is-done (λ x. x .number) (refusal s) (refusal-number s) (oneLines s k) (target s k) (one-numbered s k)
+  address-m-zero k = zero-is-done (λ x. x .number) (refusal s) (refusal-number s) (oneLines s k) (M s k) (one-numbered s k)
 
   pub block-zero : (i o : ℕ) → (numberOf (movedOf s i o) ≡ 0) ↔ (movedOf s i o ≡ done tt)
   block-zero i o = zero-is-done (λ x. x .number) (refusal s) (refusal-number s) (blockLines s i o) tt (block-numbered s i o)
@@ -119,13 +118,13 @@ module _ (s : Set) where
   symbols-zero w i o = zero-is-done (λ x. x .number) (refusal s) (refusal-number s) (symbolLines s w i o) tt (symbols-numbered s w i o)
 
 module _ (w : Walk) (room : ℕ) where
-  pub walk-l-zero : (numberOf (walkedL w room) ≡ 0) ↔ (walkedL w room ≡ done (walkValues courseL w room))
+  pub walk-l-zero : (numberOf (walkedL w room) ≡ 0) ↔ (walkedL w room ≡ done (walkValues ruleL w room))
   unfolding walkedL
-  walk-l-zero = zero-is-done (λ x. x .number) (refusal (w .set)) (refusal-number (w .set)) (walkLines w) (walkValues courseL w room) (walk-numbered w)
+  walk-l-zero = zero-is-done (λ x. x .number) (refusal (w .set)) (refusal-number (w .set)) (walkLines w) (walkValues ruleL w room) (walk-numbered w)
 
-  pub walk-m-zero : (numberOf (walkedM w room) ≡ 0) ↔ (walkedM w room ≡ done (walkValues courseM w room))
+  pub walk-m-zero : (numberOf (walkedM w room) ≡ 0) ↔ (walkedM w room ≡ done (walkValues ruleM w room))
   unfolding walkedM
-  walk-m-zero = zero-is-done (λ x. x .number) (refusal (w .set)) (refusal-number (w .set)) (backLines w) (walkValues courseM w room) (back-numbered w)
+  walk-m-zero = zero-is-done (λ x. x .number) (refusal (w .set)) (refusal-number (w .set)) (backLines w) (walkValues ruleM w room) (back-numbered w)
 
 -- .. and a stream's start and feed
 pub start-zero : (store : List ℕ) → (streamNumberOf (startedOf store) ≡ 0) ↔ (startedOf store ≡ done startRecord)

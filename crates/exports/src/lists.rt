@@ -9,7 +9,7 @@ ghost use Prim.Native.Nat.{ℕ};
 ghost use lib.ListN.{length};
 ghost use Rattle.laws.specs.Outcome.{after};
 ghost use Rattle.sets.specs.Verdict.{verdictOf, sayVerdict};
-ghost use Rattle.walks.specs.Course.{courseL, courseM};
+ghost use Rattle.walks.specs.Rules.{ruleL, ruleM};
 ghost use Rattle.walks.specs.Answer.{walkLines, backLines, walkSlice, sayWalked, sayFound, Values};
 ghost use Rattle.exports.specs.Flat.{setOf, walkOf, numberOf, outOf, foundL, foundM, walkedL, walkedM};
 
@@ -104,7 +104,7 @@ pub extern "C" fn interleaver_walk_l(
 ) -> u32
     ensures number { λ r. ⌜ r ≡ numberOf (walkedL (walkOf (now (set .entry)) (now (cell .entry))) (length (now (out .entry)))) ⌝ }
     ensures cell { λ r. ⌜ now (cell .exit) ≡ outOf (walkedL (walkOf (now (set .entry)) (now (cell .entry))) (length (now (out .entry)))) (λ (v : Values). v .next .cell) (now (cell .entry)) ⌝ }
-    ensures slice { λ r. ⌜ now (out .exit) ≡ after (walkLines (walkOf (now (set .entry)) (now (cell .entry)))) (walkSlice courseL (walkOf (now (set .entry)) (now (cell .entry))) (now (out .entry))) (now (out .entry)) ⌝ }
+    ensures slice { λ r. ⌜ now (out .exit) ≡ after (walkLines (walkOf (now (set .entry)) (now (cell .entry)))) (walkSlice ruleL (walkOf (now (set .entry)) (now (cell .entry))) (now (out .entry))) (now (out .entry)) ⌝ }
     ensures written { λ r. ⌜ now (written .exit) ≡ outOf (walkedL (walkOf (now (set .entry)) (now (cell .entry))) (length (now (out .entry)))) (λ (v : Values). v .written) (now (written .entry)) ⌝ }
     ensures cells { λ r. ⌜ now (cells .exit) ≡ outOf (walkedL (walkOf (now (set .entry)) (now (cell .entry))) (length (now (out .entry)))) (λ (v : Values). v .cells) (now (cells .entry)) ⌝ }
 {
@@ -127,7 +127,7 @@ pub extern "C" fn interleaver_walk_m(
 ) -> u32
     ensures number { λ r. ⌜ r ≡ numberOf (walkedM (walkOf (now (set .entry)) (now (cell .entry))) (length (now (out .entry)))) ⌝ }
     ensures cell { λ r. ⌜ now (cell .exit) ≡ outOf (walkedM (walkOf (now (set .entry)) (now (cell .entry))) (length (now (out .entry)))) (λ (v : Values). v .next .cell) (now (cell .entry)) ⌝ }
-    ensures slice { λ r. ⌜ now (out .exit) ≡ after (backLines (walkOf (now (set .entry)) (now (cell .entry)))) (walkSlice courseM (walkOf (now (set .entry)) (now (cell .entry))) (now (out .entry))) (now (out .entry)) ⌝ }
+    ensures slice { λ r. ⌜ now (out .exit) ≡ after (backLines (walkOf (now (set .entry)) (now (cell .entry)))) (walkSlice ruleM (walkOf (now (set .entry)) (now (cell .entry))) (now (out .entry))) (now (out .entry)) ⌝ }
     ensures written { λ r. ⌜ now (written .exit) ≡ outOf (walkedM (walkOf (now (set .entry)) (now (cell .entry))) (length (now (out .entry)))) (λ (v : Values). v .written) (now (written .entry)) ⌝ }
     ensures cells { λ r. ⌜ now (cells .exit) ≡ outOf (walkedM (walkOf (now (set .entry)) (now (cell .entry))) (length (now (out .entry)))) (λ (v : Values). v .cells) (now (cells .entry)) ⌝ }
 {

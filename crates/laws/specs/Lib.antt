@@ -17,5 +17,7 @@ pub mod Written
 pub mod Entries
 pub mod Bare
 pub mod Loop
+pub mod Walk
+pub mod Leaves
 pub mod Blind
 pub mod Sentences

@@ -6,6 +6,12 @@ use Prim.Native.Nat.{ℕ, _*_}
 use lib.Dec.{leb, eqb}
 use Rattle.laws.specs.Members.{oneOf, multiple}
 use Rattle.sets.specs.declared.Set.{Set}
+use Rattle.sets.specs.declared.Family.{Family}
+use Rattle.sets.specs.declared.Family.the-variants.{Carrier, Turbo}
+
+-- the family of a profile: 5 (3GPP WCDMA) is a turbo interleaver, 1 to 4 are carrier interleavers. For other profiles it is not read
+unfoldable pub familyOf : Set → Family
+familyOf s = cond (eqb (s .profile) 5) Turbo Carrier
 
 -- d of a carrier profile: 12 for 1 (IEEE 802.16 OFDM), 16 for 2, 3 and 4. For other profiles it is not read
 unfoldable pub rowsOf : Set → ℕ

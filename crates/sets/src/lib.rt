@@ -2,7 +2,7 @@
 ghost use mathlib.Core.Path.{_≡_};
 ghost use Prim.Native.Nat.{_<_};
 ghost use Rattle.laws.specs.Members.{multiple};
-ghost use Rattle.sets.specs.Profiles.{rowsOf, groupOf, profileListed, bitsListed, sizeListed};
+ghost use Rattle.sets.specs.Profiles.{familyOf, rowsOf, groupOf, profileListed, bitsListed, sizeListed};
 ghost use Rattle.sets.specs.Verdict.{refusal, sayVerdict, verdictOf};
 
 // A profile of document 01, bits per carrier, and the block's size N. Any numbers may be given.
@@ -21,6 +21,23 @@ pub struct Refusal {
 pub enum Verdict {
     Accepted,
     Refused(Refusal),
+}
+
+// The kinds of interleaver that profiles are of: one rule, and one crate, for each. (crate walks: src/ has a file for each.)
+pub enum Family {
+    Carrier,
+    Turbo,
+}
+
+// The family of a set's profile.
+pub fn family_of(set: Set) -> Family
+    ensures { λ r. ⌜ r ≡ familyOf set ⌝ }
+{
+    if set.profile == 5 {
+        Family::Turbo
+    } else {
+        Family::Carrier
+    }
 }
 
 // d, the rows of a carrier profile.

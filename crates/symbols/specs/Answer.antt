@@ -11,7 +11,7 @@ use Rattle.sets.specs.declared.Set.{Set}
 use Rattle.sets.specs.declared.Refusal.{Refusal}
 use Rattle.sets.specs.Verdict.{refusal}
 use Rattle.walks.specs.Answer.{planLines}
-use Rattle.walks.specs.Lists.{source}
+use Rattle.walks.specs.Rules.{L}
 use Rattle.symbols.specs.Groups.{groups, joined}
 
 -- 5: input length isn't N · w; 6: output length isn't N · w
@@ -29,9 +29,9 @@ module _ {A : Type 0} (s : Set) (w : ℕ) (src dst : List A) where
   -- the output after interleaving: symbol t of it is symbol L(t) of the input. [] stands in for a symbol that an input of N does not lack
   unfoldable pub interleavedSymbols : List A
   interleavedSymbols =
-      after (symbolLines s w (length src) (length dst)) (joined (gather (source s) (s .n) [] (groups w (s .n) src))) dst
+      after (symbolLines s w (length src) (length dst)) (joined (gather (L s) (s .n) [] (groups w (s .n) src))) dst
 
   -- and after deinterleaving: symbol L(t) of it is symbol t of the input
   unfoldable pub deinterleavedSymbols : List A
   deinterleavedSymbols =
-      after (symbolLines s w (length src) (length dst)) (joined (scatter (source s) (s .n) [] (groups w (s .n) src) (groups w (s .n) dst))) dst
+      after (symbolLines s w (length src) (length dst)) (joined (scatter (L s) (s .n) [] (groups w (s .n) src) (groups w (s .n) dst))) dst

@@ -8,7 +8,7 @@ use Rattle.laws.specs.Outcome.{after, after-map}
 use Rattle.laws.specs.Move.{gather, scatter}
 use Rattle.laws.specs.Blind.{gather-blind, scatter-blind}
 use Rattle.sets.specs.declared.Set.{Set}
-use Rattle.walks.specs.Lists.{source}
+use Rattle.walks.specs.Rules.{L}
 use Rattle.symbols.specs.Groups.{groups, joined}
 use Rattle.symbols.specs.Answer.{symbolLines, movedSymbols, interleavedSymbols, deinterleavedSymbols}
 
@@ -50,17 +50,17 @@ module _ {A B : Type 0} (h : A → B) where
     unfolding interleavedSymbols
     blind-interleaved =
         let gs = groups w (s .n) src in
-        blind-after (joined (gather (source s) (s .n) [] gs))
-        (ap (λ (x : List (List B)). joined (gather (source s) (s .n) [] x)) (map-groups w (s .n) src)
-        ∙ ap joined (gather-blind (map h) (source s) (s .n) [] gs)
-        ∙ map-joined (gather (source s) (s .n) [] gs))
+        blind-after (joined (gather (L s) (s .n) [] gs))
+        (ap (λ (x : List (List B)). joined (gather (L s) (s .n) [] x)) (map-groups w (s .n) src)
+        ∙ ap joined (gather-blind (map h) (L s) (s .n) [] gs)
+        ∙ map-joined (gather (L s) (s .n) [] gs))
 
     pub blind-deinterleaved : deinterleavedSymbols s w (map h src) (map h dst) ≡ map h (deinterleavedSymbols s w src dst)
     unfolding deinterleavedSymbols
     blind-deinterleaved =
         let gs = groups w (s .n) src in
         let os = groups w (s .n) dst in
-        blind-after (joined (scatter (source s) (s .n) [] gs os))
-        (ap₂ (λ (x y : List (List B)). joined (scatter (source s) (s .n) [] x y)) (map-groups w (s .n) src) (map-groups w (s .n) dst)
-        ∙ ap joined (scatter-blind (map h) (source s) (s .n) [] gs os)
-        ∙ map-joined (scatter (source s) (s .n) [] gs os))
+        blind-after (joined (scatter (L s) (s .n) [] gs os))
+        (ap₂ (λ (x y : List (List B)). joined (scatter (L s) (s .n) [] x y)) (map-groups w (s .n) src) (map-groups w (s .n) dst)
+        ∙ ap joined (scatter-blind (map h) (L s) (s .n) [] gs os)
+        ∙ map-joined (scatter (L s) (s .n) [] gs os))

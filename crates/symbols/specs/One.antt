@@ -11,7 +11,7 @@ use Rattle.laws.specs.Run.{run, run-same}
 use Rattle.laws.specs.Perm.{Perm}
 use Rattle.laws.specs.Move.{gather, scatter, scatter-is}
 use Rattle.sets.specs.declared.Set.{Set}
-use Rattle.walks.specs.Lists.{source, target}
+use Rattle.walks.specs.Rules.{L, M}
 use Rattle.blocks.specs.Answer.{blockLines, movedOf, interleaved, deinterleaved}
 use Rattle.blocks.specs.Passed.{lengths-are}
 use Rattle.blocks.specs.Laws.{perm}
@@ -46,22 +46,22 @@ module _ {A : Type 0} where
       ∙ joined-ones (λ t. getD xs (f t) z) 0 n
 
 module _ {A : Type 0} (s : Set) (z : A) (src dst : List A) where
-  where-clear : first (blockLines s (length src) (length dst)) ≡ clear → Perm (s .n) (source s) (target s)
+  where-clear : first (blockLines s (length src) (length dst)) ≡ clear → Perm (s .n) (L s) (M s)
   where-clear c = perm s z src dst (rw c)
 
   pub width-one : interleavedSymbols s 1 src dst ≡ interleaved s z src dst
   unfolding interleavedSymbols interleaved
   width-one =
-      ap (λ (ls : List Line). after ls (joined (gather (source s) (s .n) [] (groups 1 (s .n) src))) dst) (lines-one s (length src) (length dst))
+      ap (λ (ls : List Line). after ls (joined (gather (L s) (s .n) [] (groups 1 (s .n) src))) dst) (lines-one s (length src) (length dst))
       ∙ after-same (blockLines s (length src) (length dst)) dst
-      (λ c. gather-one (source s) (s .n) z src (lengths-are s (length src) (length dst) c .0) (where-clear c .l-below))
+      (λ c. gather-one (L s) (s .n) z src (lengths-are s (length src) (length dst) c .0) (where-clear c .l-below))
 
   pub width-one-back : deinterleavedSymbols s 1 src dst ≡ deinterleaved s z src dst
   unfolding deinterleavedSymbols deinterleaved
   width-one-back =
-      ap (λ (ls : List Line). after ls (joined (scatter (source s) (s .n) [] (groups 1 (s .n) src) (groups 1 (s .n) dst))) dst)
+      ap (λ (ls : List Line). after ls (joined (scatter (L s) (s .n) [] (groups 1 (s .n) src) (groups 1 (s .n) dst))) dst)
       (lines-one s (length src) (length dst))
       ∙ after-same (blockLines s (length src) (length dst)) dst
       (λ c. ap joined (scatter-is (where-clear c) [] (groups 1 (s .n) src) (groups 1 (s .n) dst) (length-groups 1 (s .n) dst))
-      ∙ gather-one (target s) (s .n) z src (lengths-are s (length src) (length dst) c .0) (where-clear c .m-below)
+      ∙ gather-one (M s) (s .n) z src (lengths-are s (length src) (length dst) c .0) (where-clear c .m-below)
       ∙ sym (scatter-is (where-clear c) z src dst (lengths-are s (length src) (length dst) c .1)))

@@ -13,7 +13,7 @@ use Rattle.sets.specs.declared.Set.{Set}
 use Rattle.sets.specs.declared.Refusal.{Refusal}
 use Rattle.sets.specs.Verdict.{refusal}
 use Rattle.walks.specs.Answer.{planLines, walkLines, Values}
-use Rattle.walks.specs.Lists.{source}
+use Rattle.walks.specs.Rules.{L}
 use Rattle.walks.specs.Whole.{begin, begin-lines}
 use Rattle.blocks.specs.declared.Moved.{Moved}
 use Rattle.blocks.specs.declared.Moved.the-variants.{Done, Refused}
@@ -85,9 +85,9 @@ module _ {s : Set} {w i o : ℕ} {table : List ℕ} {r : Moved} (p : Planned s w
 
     module _ {A : Type 0} (src old : List A) where
       pub gather-output : joined (gather (by table) (s .n) [] (groups w (s .n) src))
-          ≡ after (symbolLines s w i o) (joined (gather (source s) (s .n) [] (groups w (s .n) src))) old
+          ≡ after (symbolLines s w i o) (joined (gather (L s) (s .n) [] (groups w (s .n) src))) old
       gather-output = rw all-clear (ap joined (gather-as (p .tabled e) [] (groups w (s .n) src)))
 
       pub scatter-output : joined (scatter (by table) (s .n) [] (groups w (s .n) src) (groups w (s .n) old))
-          ≡ after (symbolLines s w i o) (joined (scatter (source s) (s .n) [] (groups w (s .n) src) (groups w (s .n) old))) old
+          ≡ after (symbolLines s w i o) (joined (scatter (L s) (s .n) [] (groups w (s .n) src) (groups w (s .n) old))) old
       scatter-output = rw all-clear (ap joined (scatter-as (p .tabled e) [] (groups w (s .n) src) (groups w (s .n) old)))

@@ -9,21 +9,20 @@ use Rattle.laws.specs.Outcome.{refused}
 use Rattle.laws.specs.Move.{gather, scatter}
 use Rattle.laws.specs.Sentences.{Sentence, sentence, FirstTrue, Told, none, told-differ, said-exactly, kept-alone}
 use Rattle.sets.specs.declared.Set.{Set}
-use Rattle.sets.specs.Verdict.{setLines, refusal}
-use Rattle.sets.specs.Refusals.{setSentences, set-told, refusals-apart}
-use Rattle.walks.specs.Answer.{planLines}
-use Rattle.walks.specs.Lists.{source}
-use Rattle.walks.specs.Refusals.{SearchPasses, told-search}
+use Rattle.sets.specs.Verdict.{refusal}
+use Rattle.sets.specs.Refusals.{refusals-apart}
+use Rattle.walks.specs.Rules.{L}
+use Rattle.walks.specs.Refusals.{planSentences, plan-told}
 use Rattle.symbols.specs.Groups.{groups, joined}
 use Rattle.symbols.specs.Answer.{symbolLines, movedSymbols, interleavedSymbols, deinterleavedSymbols}
 
 -- 5: input length isn't N · w; 6: output length isn't N · w
 abbrev pub symbolSentences : Set → ℕ → ℕ → ℕ → List Sentence
-symbolSentences s w i o = setSentences s ++ (sentence 8 (SearchPasses s) ∷ sentence 5 (i ≢ s .n * w) ∷ sentence 6 (o ≢ s .n * w) ∷ [])
+symbolSentences s w i o = planSentences s ++ (sentence 5 (i ≢ s .n * w) ∷ sentence 6 (o ≢ s .n * w) ∷ [])
 
 symbols-told : (s : Set) (w i o : ℕ) → Told (Unit {0}) (symbolLines s w i o) (symbolSentences s w i o)
-unfolding symbolLines planLines setLines
-symbols-told s w i o = set-told s (told-search s (told-differ 5 i (s .n * w) (told-differ 6 o (s .n * w) none)))
+unfolding symbolLines
+symbols-told s w i o = plan-told s (told-differ 5 i (s .n * w) (told-differ 6 o (s .n * w) none))
 
 pub refusal-order-symbols : (s : Set) (w i o k : ℕ) → (movedSymbols s w i o ≡ refused (refusal s k)) ↔ FirstTrue (symbolSentences s w i o) k
 refusal-order-symbols s w i o k = said-exactly (symbols-told s w i o) tt (refusal s) (refusals-apart s) tt k
@@ -31,9 +30,9 @@ refusal-order-symbols s w i o k = said-exactly (symbols-told s w i o) tt (refusa
 module _ {A : Type 0} (s : Set) (w : ℕ) (src dst : List A) (k : ℕ) (h : FirstTrue (symbolSentences s w (length src) (length dst)) k) where
   pub output-kept : interleavedSymbols s w src dst ≡ dst
   unfolding interleavedSymbols
-  output-kept = kept-alone (symbols-told s w (length src) (length dst)) tt (joined (gather (source s) (s .n) [] (groups w (s .n) src))) dst k h
+  output-kept = kept-alone (symbols-told s w (length src) (length dst)) tt (joined (gather (L s) (s .n) [] (groups w (s .n) src))) dst k h
 
   pub output-kept-back : deinterleavedSymbols s w src dst ≡ dst
   unfolding deinterleavedSymbols
   output-kept-back =
-      kept-alone (symbols-told s w (length src) (length dst)) tt (joined (scatter (source s) (s .n) [] (groups w (s .n) src) (groups w (s .n) dst))) dst k h
+      kept-alone (symbols-told s w (length src) (length dst)) tt (joined (scatter (L s) (s .n) [] (groups w (s .n) src) (groups w (s .n) dst))) dst k h

@@ -12,9 +12,8 @@ use Rattle.sets.specs.declared.Set.{Set}
 use Rattle.sets.specs.Verdict.{refusal, verdictOf}
 use Rattle.sets.specs.Refusals.{setSentences, refusal-order-test}
 use Rattle.walks.specs.declared.Walk.{Walk}
-use Rattle.walks.specs.Course.{courseL, courseM}
+use Rattle.walks.specs.Rules.{ruleL, ruleM, L, M}
 use Rattle.walks.specs.Answer.{walkLines, backLines, oneLines, walkValues, walkSlice}
-use Rattle.walks.specs.Lists.{source, target}
 use Rattle.walks.specs.Refusals.{walkSentences, backSentences, oneSentences, refusal-order-l, refusal-order-m, refusal-order-one, slice-kept-l, slice-kept-m}
 use Rattle.blocks.specs.Answer.{movedOf, interleaved, deinterleaved}
 use Rattle.blocks.specs.Refusals.{blockSentences, refusal-order-block, output-kept, output-kept-back}
@@ -28,19 +27,19 @@ refusal-order-set s k = refusal-order-test s k
 
 -- the walk for L: 1, 2, 3, 8, 9
 pub refusal-order-walk-l : (w : Walk) (room k : ℕ)
-    → (judged (refusal (w .set)) (walkLines w) (walkValues courseL w room) ≡ refused (refusal (w .set) k)) ↔ FirstTrue (walkSentences w) k
+    → (judged (refusal (w .set)) (walkLines w) (walkValues ruleL w room) ≡ refused (refusal (w .set) k)) ↔ FirstTrue (walkSentences w) k
 refusal-order-walk-l w room k = refusal-order-l w room k
 
 -- the walk for M: 1, also for profile 5, 2, 3, 9
 pub refusal-order-walk-m : (w : Walk) (room k : ℕ)
-    → (judged (refusal (w .set)) (backLines w) (walkValues courseM w room) ≡ refused (refusal (w .set) k)) ↔ FirstTrue (backSentences w) k
+    → (judged (refusal (w .set)) (backLines w) (walkValues ruleM w room) ≡ refused (refusal (w .set) k)) ↔ FirstTrue (backSentences w) k
 refusal-order-walk-m w room k = refusal-order-m w room k
 
 -- one address, either way: 1, 2, 3, 8, 4
 pub refusal-order-address : (s : Set) (x k : ℕ)
-    → ((judged (refusal s) (oneLines s x) (source s x) ≡ refused (refusal s k)) ↔ FirstTrue (oneSentences s x) k)
-    × ((judged (refusal s) (oneLines s x) (target s x) ≡ refused (refusal s k)) ↔ FirstTrue (oneSentences s x) k)
-refusal-order-address s x k = (refusal-order-one s x (source s x) k, refusal-order-one s x (target s x) k)
+    → ((judged (refusal s) (oneLines s x) (L s x) ≡ refused (refusal s k)) ↔ FirstTrue (oneSentences s x) k)
+    × ((judged (refusal s) (oneLines s x) (M s x) ≡ refused (refusal s k)) ↔ FirstTrue (oneSentences s x) k)
+refusal-order-address s x k = (refusal-order-one s x (L s x) k, refusal-order-one s x (M s x) k)
 
 -- a block, either way: 1, 2, 3, 8, 5, 6
 pub refusal-order-moved : (s : Set) (i o k : ℕ) → (movedOf s i o ≡ refused (refusal s k)) ↔ FirstTrue (blockSentences s i o) k
@@ -48,13 +47,13 @@ refusal-order-moved s i o k = refusal-order-block s i o k
 
 -- "and changes no lent byte": then the call says that number and nothing else, and what it was lent is what it was
 pub refused-alone-walk-l : (w : Walk) (old : List ℕ) (k : ℕ) → FirstTrue (walkSentences w) k
-    → (judged (refusal (w .set)) (walkLines w) (walkValues courseL w (length old)) ≡ refused (refusal (w .set) k))
-    × (after (walkLines w) (walkSlice courseL w old) old ≡ old)
+    → (judged (refusal (w .set)) (walkLines w) (walkValues ruleL w (length old)) ≡ refused (refusal (w .set) k))
+    × (after (walkLines w) (walkSlice ruleL w old) old ≡ old)
 refused-alone-walk-l w old k h = (refusal-order-l w (length old) k .1 h, slice-kept-l w old k h)
 
 pub refused-alone-walk-m : (w : Walk) (old : List ℕ) (k : ℕ) → FirstTrue (backSentences w) k
-    → (judged (refusal (w .set)) (backLines w) (walkValues courseM w (length old)) ≡ refused (refusal (w .set) k))
-    × (after (backLines w) (walkSlice courseM w old) old ≡ old)
+    → (judged (refusal (w .set)) (backLines w) (walkValues ruleM w (length old)) ≡ refused (refusal (w .set) k))
+    × (after (backLines w) (walkSlice ruleM w old) old ≡ old)
 refused-alone-walk-m w old k h = (refusal-order-m w (length old) k .1 h, slice-kept-m w old k h)
 
 pub refused-alone-block : {A : Type 0} (s : Set) (z : A) (src dst : List A) (k : ℕ) → FirstTrue (blockSentences s (length src) (length dst)) k

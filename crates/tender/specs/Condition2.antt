@@ -7,18 +7,20 @@ use mathlib.Core.Logic.{_↔_, _≢_}
 use mathlib.Core.Path.{_≡_, refl, sym, ap, _∙_}
 use native.Mathlib.Omega.{arith}
 use lib.ListN.{length, getD}
-use borrow.Author.Tests.{eq-eqb, ne-eqb}
 use Rattle.laws.specs.Outcome.{done}
 use Rattle.laws.specs.Perm.{Perm}
 use Rattle.laws.specs.Sized.{Sized}
+use Rattle.laws.specs.Walk.{Rule}
 use Rattle.sets.specs.declared.Set.{Set}
 use Rattle.sets.specs.Profiles.{rowsOf, groupOf}
 use Rattle.sets.specs.Verdict.{verdictOf}
 use Rattle.sets.specs.Listed.{setsOf, ofdm, ofdma, wlan, bench, turbo, listedSets, counts}
 use Rattle.sets.specs.Admits.{listed-accepted, accepted-listed}
+use Rattle.sets.specs.Carried.{five-turbo, other-carrier}
 use Rattle.carrier.specs.Formula.{carrierL, carrierM}
 use Rattle.carrier.specs.Once.{carrier-once}
 use Rattle.wcdma.specs.Turbo.{turboL, turboM}
+use Rattle.walks.specs.Rules.{L, M, rule-is}
 use Rattle.walks.specs.Lists as lists
 use Rattle.blocks.specs.Answer.{movedOf, interleaved, deinterleaved}
 use Rattle.blocks.specs.Laws as moves
@@ -32,20 +34,14 @@ admits s = (listed-accepted s, accepted-listed s)
 pub listed-counts : (length (setsOf ofdm) ≡ 20) × (length (setsOf ofdma) ≡ 11) × (length (setsOf wlan) ≡ 4) × (length (setsOf bench) ≡ 272) × (length turbo ≡ 5075)
 listed-counts = (counts .ofdm-has, counts .ofdma-has, counts .wlan-has, counts .bench-has, counts .turbo-has)
 
--- L: output t holds input L(t). M: input k goes to output M(k)
-abbrev pub L : Set → ℕ → ℕ
-L s = lists.source s
-
-abbrev pub M : Set → ℕ → ℕ
-M s = lists.target s
-
+-- L: output t holds input L(t). M: input k goes to output M(k) (crate walks, specs/Rules.antt, by family);
 -- they are the carrier formulas for profiles 1 to 4 ..
 pub formulas-carrier : (s : Set) → s .profile ≢ 5 → (L s ≡ carrierL (rowsOf s) (s .n) (groupOf s)) × (M s ≡ carrierM (rowsOf s) (s .n) (groupOf s))
-formulas-carrier s ne = let e = ne-eqb (s .profile) 5 ne in (lists.source-carrier s e, lists.target-carrier s e)
+formulas-carrier s ne = let e = rule-is s (other-carrier s ne) in (ap (λ (r : Rule). r .l) e, ap (λ (r : Rule). r .m) e)
 
 -- .. and for profile 5 the WCDMA turbo list as document 01 describes it (docs/DECISIONS.md, 11), and the place in it
 pub formulas-turbo : (s : Set) → s .profile ≡ 5 → (L s ≡ turboL (s .n)) × (M s ≡ turboM (s .n))
-formulas-turbo s e = let t = eq-eqb (s .profile) 5 e in (lists.source-turbo s t, lists.target-turbo s t)
+formulas-turbo s five = let e = rule-is s (five-turbo s five) in (ap (λ (r : Rule). r .l) e, ap (λ (r : Rule). r .m) e)
 
 -- "Each index is used once": of every accepted set, L and M are below N and undo each other there
 pub each-once : (s : Set) → verdictOf s ≡ done tt → Perm (s .n) (L s) (M s)

@@ -10,7 +10,7 @@ use Rattle.laws.specs.Keep.{keep, padding}
 use Rattle.laws.specs.Members.{All}
 use Rattle.laws.specs.Once.{inside}
 use Rattle.sets.specs.declared.Set.{Set}
-use Rattle.sets.specs.Profiles.{rowsOf, groupOf}
+use Rattle.sets.specs.Profiles.{familyOf, rowsOf, groupOf}
 use Rattle.carrier.specs.Formula.{firstStep, secondStep, carrierM, backStep, lastStep, carrierL}
 use Rattle.wcdma_plan.specs.Rectangle.{rows, primes, firstPrime, prime, colsOf, cols, cells}
 use Rattle.wcdma_plan.specs.Powers.{power, firstOne, generates, rootFrom, root}
@@ -18,8 +18,9 @@ use Rattle.wcdma_plan.specs.Numbers.{gcdIn, gcd, noDivisor, isPrime, passes, ne
 use Rattle.wcdma_plan.specs.Orders.{rowOrders, whichOrder, orderOf, rowAt}
 use Rattle.wcdma.specs.Turbo.{entry, address, padCells}
 use Rattle.wcdma.specs.Pads.{cells-are}
-use Rattle.walks.specs.Course.{courseL}
-use Rattle.walks.specs.Lists.{source, target, listL}
+use Rattle.walks.specs.Rules.{ruleOf, ruleL}
+use Rattle.walks.specs.Rules as rules
+use Rattle.walks.specs.Lists.{listL}
 
 -- what 01 asks of a set. Some questions have an argument x, said here; for the others it is 0 and not read
 pub data Question : Type 0 where
@@ -37,17 +38,17 @@ pub data Question : Type 0 where
 
 -- the answer of the definitions
 unfoldable pub answer : Question → Set → ℕ → List ℕ
-answer M s x = target s x ∷ []
-answer L s x = source s x ∷ []
+answer M s x = rules.M s x ∷ []
+answer L s x = rules.L s x ∷ []
 answer R s x = rows (s .n) ∷ []
 answer p s x = prime (s .n) ∷ []
 answer C s x = cols (s .n) ∷ []
-answer total s x = courseL s .total ∷ []
+answer total s x = ruleL s .total ∷ []
 answer padded s x = padCells (s .n) ∷ []
 answer begins s x = take x (listL s)
 answer ends s x = drop (length (listL s) - x) (listL s)
-answer give s x = keep (courseL s .address) (inside (s .n)) 0 x
-answer pads s x = cond (inside (s .n) (courseL s .address x)) 0 1 ∷ []
+answer give s x = keep (ruleL s .address) (inside (s .n)) 0 x
+answer pads s x = cond (inside (s .n) (ruleL s .address x)) 0 1 ∷ []
 
 -- a row has its proof with it: where the definitions answer something else, the row is refused, and the table with it
 pub record Row : Type 0 where
@@ -77,7 +78,7 @@ counted k h = let e : padCells k ≡ cells k - k = omega (arith, cells-are k h) 
 
 -- the table, in 01's order
 unfoldable pub stars : List Row
-unfolding answer padCells padding source target listL courseL keep rowsOf groupOf firstStep secondStep carrierM backStep lastStep carrierL rows primes firstPrime prime colsOf cols cells power firstOne generates rootFrom root gcdIn gcd noDivisor isPrime passes nextIn nextQ qOf rowOrders whichOrder orderOf rowAt entry address
+unfolding answer padCells padding listL ruleOf familyOf keep rowsOf groupOf firstStep secondStep carrierM backStep lastStep carrierL rows primes firstPrime prime colsOf cols cells power firstOne generates rootFrom root gcdIn gcd noDivisor isPrime passes nextIn nextQ qOf rowOrders whichOrder orderOf rowAt entry address
 stars =
     -- Profile 3, bits 4, N 192: M of 0, 1, 16, 17, 191
     row M (wlan 4 192) 0 (0 ∷ []) refl

@@ -1,31 +1,32 @@
 -- What the calls on a set answer: their lines in the order of document 01, 1, 2, 3, 8, 4, 9, their values, and the slice after a walk.
--- A course is a parameter, so that both walks have one definition. Assumes nothing.
-use Prim.Native.Nat.{ℕ, _+_, _-_}
+-- A rule is a parameter, so that both walks have one definition. Assumes nothing.
+use Prim.Native.Nat.{ℕ, _+_}
 use mathlib.Core.List.{List, [], _∷_, _++_}
 use mathlib.Core.Path.{_≡_, ap}
 use native.Mathlib.Omega.{arith}
 use lib.Dec.{ltb, leb}
-use lib.ListN.{length, drop}
+use lib.ListN.{length}
 use Rattle.laws.specs.Outcome.{Outcome, done, refused, Line, line}
-use Rattle.laws.specs.Keep.{wrote, steps, padding}
-use Rattle.laws.specs.Once.{inside}
+use Rattle.laws.specs.Walk.{Rule}
+use Rattle.laws.specs.Walk as along
 use Rattle.sets.specs.declared.Set.{Set}
 use Rattle.sets.specs.declared.Refusal.{Refusal}
+use Rattle.sets.specs.Profiles.{familyOf}
 use Rattle.sets.specs.Verdict.{setLines}
 use Rattle.walks.specs.declared.Walk.{Walk}
 use Rattle.walks.specs.declared.Walked.{Walked}
 use Rattle.walks.specs.declared.Walked.the-variants.{Done, Refused}
 use Rattle.walks.specs.declared.Found.{Found}
 use Rattle.walks.specs.declared.Found.the-variants as found
-use Rattle.walks.specs.Course.{Course, isTurbo, courseL, courseM, givesUp}
+use Rattle.walks.specs.Rules.{ruleOf, ruleL, ruleM, oneWay}
 
 -- the lines of every call on a set but its test: 1, 2, 3, then 8, that the search for q gives up
 unfoldable pub planLines : Set → List Line
-planLines s = setLines s ++ (line 8 (givesUp s) ∷ [])
+planLines s = setLines s ++ (line 8 (ruleOf s .fails) ∷ [])
 
 -- 9: a walk's cell is past the total
-abbrev pub cellLine : (Set → Course) → Walk → Line
-cellLine course w = line 9 (ltb (course (w .set) .total) (w .cell))
+abbrev pub cellLine : (Set → Rule) → Walk → Line
+cellLine rule w = line 9 (ltb (rule (w .set) .total) (w .cell))
 
 -- 4: a single position is N or more
 abbrev pub positionLine : Set → ℕ → Line
@@ -33,37 +34,33 @@ positionLine s x = line 4 (leb (s .n) x)
 
 -- the walk for L
 unfoldable pub walkLines : Walk → List Line
-walkLines w = planLines (w .set) ++ (cellLine courseL w ∷ [])
+walkLines w = planLines (w .set) ++ (cellLine ruleL w ∷ [])
 
--- the walk for M: profile 5 is refusal 1 too, and stands where 1 does; no other profile searches, so 8 is no line of it
+-- the walk for M: a profile whose M is not walked is refusal 1 too, and stands where 1 does; no other profile searches, so 8 is no line of it
 unfoldable pub backLines : Walk → List Line
-backLines w = line 1 (isTurbo (w .set)) ∷ (setLines (w .set) ++ (cellLine courseM w ∷ []))
+backLines w = line 1 (oneWay (familyOf (w .set))) ∷ (setLines (w .set) ++ (cellLine ruleM w ∷ []))
 
 -- one address, either way
 unfoldable pub oneLines : Set → ℕ → List Line
 oneLines s x = planLines s ++ (positionLine s x ∷ [])
 
--- a walk along a course, with room for so many addresses
-module _ (course : Set → Course) (w : Walk) where
-  -- the addresses that it writes: cell by cell, all that are not padding, until the room is full or no cell is left
-  unfoldable pub walkList : ℕ → List ℕ
-  walkList room = wrote (course (w .set) .address) (inside (w .set .n)) (w .cell) (course (w .set) .total - w .cell) room
+-- a walk along a rule, with room for so many addresses: what it writes, the cells it examines, the padding it passes, the slice after it
+module _ (rule : Set → Rule) (w : Walk) where
+  abbrev pub walkList : ℕ → List ℕ
+  walkList = along.walkList (w .set .n) (rule (w .set)) (w .cell)
 
-  -- the cells that it examines
-  unfoldable pub walkCells : ℕ → ℕ
-  walkCells room = steps (course (w .set) .address) (inside (w .set .n)) (w .cell) (course (w .set) .total - w .cell) room
+  abbrev pub walkCells : ℕ → ℕ
+  walkCells = along.walkCells (w .set .n) (rule (w .set)) (w .cell)
 
-  -- the padding that it passes, by the test on each address from the old cell to the new
-  unfoldable pub walkPadding : ℕ → ℕ
-  walkPadding room = padding (course (w .set) .address) (inside (w .set .n)) (w .cell) (walkCells room)
+  abbrev pub walkPadding : ℕ → ℕ
+  walkPadding = along.walkPadding (w .set .n) (rule (w .set)) (w .cell)
+
+  abbrev pub walkSlice : List ℕ → List ℕ
+  walkSlice = along.walkSlice (w .set .n) (rule (w .set)) (w .cell)
 
   -- the record that it gives back
   unfoldable pub walkNext : ℕ → Walk
   walkNext room = record { set = w .set; cell = w .cell + walkCells room }
-
-  -- the slice after it: the addresses, and then what stood there
-  unfoldable pub walkSlice : List ℕ → List ℕ
-  walkSlice old = walkList (length old) ++ drop (length (walkList (length old))) old
 
 -- the values of a walk: addresses written, the record, cells examined
 pub record Values : Type 0 where
@@ -74,8 +71,8 @@ pub record Values : Type 0 where
 abbrev pub values : ℕ → Walk → ℕ → Values
 values k n c = record { written = k; next = n; cells = c }
 
-unfoldable pub walkValues : (Set → Course) → Walk → ℕ → Values
-walkValues course w room = values (length (walkList course w room)) (walkNext course w room) (walkCells course w room)
+unfoldable pub walkValues : (Set → Rule) → Walk → ℕ → Values
+walkValues rule w room = values (length (walkList rule w room)) (walkNext rule w room) (walkCells rule w room)
 
 -- what the answer of a walk says
 abbrev pub sayWalked : Walked → Outcome Refusal Values

@@ -1,10 +1,8 @@
-pub mod Course
+pub mod Rules
 pub mod Answer
 pub mod Passed
-pub mod ByCarrier
-pub mod ByTurbo
+pub mod Families
 pub mod Lists
-pub mod One
 pub mod Runs
 pub mod Calls
 pub mod Whole

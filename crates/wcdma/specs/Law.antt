@@ -9,17 +9,19 @@ use lib.Dec.{ltb}
 use lib.ListN.{length, getD}
 use lib.Arith.{digits-lt, digits-div, digits-mod}
 use borrow.Author.Tests.{ltb-false, lt-ltb}
+use Rattle.laws.specs.Run.{run, run-getD}
 use Rattle.laws.specs.Perm.{Perm}
 use Rattle.laws.specs.Once.{inside, count, once, kept}
 use Rattle.laws.specs.Position.{position, kept-perm}
+use Rattle.laws.specs.Walk.{Lawful}
 use Rattle.wcdma_plan.specs.Rectangle.{rows, prime, cols, cells}
 use Rattle.wcdma_plan.specs.Powers.{root}
 use Rattle.wcdma_plan.specs.Numbers.{qOf}
 use Rattle.wcdma_plan.specs.Orders.{orderOf, rowAt, order-perm, order-listed}
-use Rattle.wcdma_plan.specs.Shape.{choice, rows-pos, rows-le, prime-listed, cols-low, cols-high, fits}
+use Rattle.wcdma_plan.specs.Shape.{choice, rows-pos, rows-le, prime-listed, cols-low, cols-high, fits, cells-le}
 use Rattle.wcdma_plan.specs.Roots.{prime-root}
 use Rattle.wcdma_plan.specs.Found.{q-unit}
-use Rattle.wcdma.specs.Turbo.{entry, address, addresses, turboL, turboM}
+use Rattle.wcdma.specs.Turbo.{entry, address, addresses, turboL, turboM, turboRule}
 use Rattle.wcdma.specs.Row.{entry-lt, entry-inj}
 
 module _ (k : ℕ) where
@@ -112,3 +114,12 @@ module _ (k : ℕ) where
     pub each-once : Perm k (turboL k) (turboM k)
     unfolding turboL turboM addresses
     each-once = kept-perm (address k) (cells k) address-lt address-inj k (fits k h)
+
+    -- the laws of the family
+    pub turbo-lawful : Lawful k (turboRule k)
+    unfolding turboL addresses
+    turbo-lawful = record {
+      perm = each-once;
+      list = sym (run-getD (addresses k) 0) ∙ ap (run (λ i. getD (addresses k) i 0) 0) as-many;
+      small = omega (arith, cells-le k);
+    }

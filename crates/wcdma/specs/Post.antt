@@ -7,26 +7,16 @@ use lib.Dec.{ltb, eqb}
 use lib.ListN.{getD, length}
 use Rattle.laws.specs.Once.{inside}
 use Rattle.laws.specs.Written.{Written}
+use Rattle.laws.specs.declared.Leaf.{Leaf}
+use Rattle.laws.specs.declared.Leaf.the-variants.{Went}
+use Rattle.laws.specs.Walk.{walkList, walkCells, walkSlice}
 use Rattle.wcdma_plan.specs.declared.Shape.{Shape}
-use Rattle.wcdma_plan.specs.Rectangle.{Size, rows, prime, cols, cells}
+use Rattle.wcdma_plan.specs.Rectangle.{rows, prime, cols, cells}
 use Rattle.wcdma_plan.specs.Powers.{power, root}
 use Rattle.wcdma_plan.specs.Numbers.{qOf, searchFails}
 use Rattle.wcdma_plan.specs.Orders.{rowAt}
 use Rattle.wcdma_plan.specs.Post.{ShapeOf, shortBy}
-use Rattle.wcdma.specs.declared.TurboWalk.{TurboWalk}
-use Rattle.wcdma.specs.declared.TurboWalk.the-variants.{Went}
-use Rattle.wcdma.specs.Turbo.{address, walkList, walkCells}
-use Rattle.wcdma.specs.Answers.{walkSlice}
-
--- a size, and a cell of its rectangle or the end
-pub record WalkIn (k cell : ℕ) : Type 0 where
-  pub size : Size k
-  pub within : cell ≤ cells k
-
--- a size, and a number below it
-pub record OneIn (k x : ℕ) : Type 0 where
-  pub size : Size k
-  pub below : x < k
+use Rattle.wcdma.specs.Turbo.{address, turboRule}
 
 -- the column that comes next in row x, where the walk stands at row i of column j
 abbrev pub nextCol : ℕ → ℕ → ℕ → ℕ
@@ -117,6 +107,6 @@ pub record FillIn (z : Shape) (cell i j : ℕ) (s base fall e : List ℕ) : Type
   pub exponents : Exponents (z .k) i j e
 
 -- the walk is done: its answer and the slice
-pub record WentOf (k cell : ℕ) (old new : List ℕ) (r : TurboWalk) : Type 0 where
-  pub answer : r ≡ Went (length (walkList k cell (length old))) (walkCells k cell (length old))
-  pub slice : new ≡ walkSlice k cell old
+pub record WentOf (k cell : ℕ) (old new : List ℕ) (r : Leaf) : Type 0 where
+  pub answer : r ≡ Went (length (walkList k (turboRule k) cell (length old))) (walkCells k (turboRule k) cell (length old))
+  pub slice : new ≡ walkSlice k (turboRule k) cell old

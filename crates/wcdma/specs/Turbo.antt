@@ -5,12 +5,13 @@ use mathlib.Core.Bool.{cond}
 use mathlib.Core.List.{List}
 use lib.Dec.{ltb, eqb}
 use lib.ListN.{getD}
-use Rattle.laws.specs.Keep.{keep, wrote, steps, padding}
+use Rattle.laws.specs.Keep.{keep, padding}
 use Rattle.laws.specs.Once.{inside}
 use Rattle.laws.specs.Position.{position}
+use Rattle.laws.specs.Walk.{Rule}
 use Rattle.wcdma_plan.specs.Rectangle.{rows, prime, cols, cells}
 use Rattle.wcdma_plan.specs.Powers.{power, root}
-use Rattle.wcdma_plan.specs.Numbers.{qOf}
+use Rattle.wcdma_plan.specs.Numbers.{qOf, searchFails}
 use Rattle.wcdma_plan.specs.Orders.{rowAt}
 
 -- U(j) where s is the power that belongs to column j: s - 1 if C = p - 1; else s for j < p - 1, 0 for j = p - 1, p for j = p
@@ -38,13 +39,9 @@ turboL k t = getD (addresses k) t 0
 unfoldable pub turboM : ℕ → ℕ → ℕ
 turboM k a = position a (addresses k)
 
--- a walk from a cell, with room for so many addresses: what it writes
-unfoldable pub walkList : ℕ → ℕ → ℕ → List ℕ
-walkList k cell room = wrote (address k) (inside k) cell (cells k - cell) room
-
--- and the cells it examines
-unfoldable pub walkCells : ℕ → ℕ → ℕ → ℕ
-walkCells k cell room = steps (address k) (inside k) cell (cells k - cell) room
+-- the rule of a block of K: cells are those of the rectangle, and the set-up gives up where its search for q does
+abbrev pub turboRule : ℕ → Rule
+turboRule k = record { total = cells k; address = address k; l = turboL k; m = turboM k; fails = searchFails k }
 
 -- how many of its cells are padding
 unfoldable pub padCells : ℕ → ℕ

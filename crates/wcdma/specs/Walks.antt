@@ -1,25 +1,11 @@
--- What a walk writes, in terms of L. (That it may be cut anywhere, and what its cells are, is proved in crate walks, for every profile.)
--- Assumes nothing.
-use Prim.Native.Nat.{ℕ, _-_, _≤_}
-use mathlib.Core.Path.{_≡_, _∙_}
-use native.Mathlib.Nat.{sub-zero}
-use native.Mathlib.Omega.{arith}
-use lib.ListN.{take}
-use lib.Seq.{take-all}
-use Rattle.laws.specs.Keep.{keep}
-use Rattle.laws.specs.Cut.{wrote-take}
-use Rattle.laws.specs.Once.{inside}
-use Rattle.wcdma_plan.specs.Rectangle.{Size, cells}
-use Rattle.wcdma.specs.Turbo.{address, addresses, walkList}
-use Rattle.wcdma.specs.Law.{as-many}
+-- A walk from cell 0 with room for all of it writes L. (The rest is proved once for every family, in crates laws and walks.) Assumes nothing.
+use Prim.Native.Nat.{ℕ, _≤_}
+use mathlib.Core.Path.{_≡_, sym, _∙_}
+use Rattle.laws.specs.Walk.{walkList, whole-list}
+use Rattle.wcdma_plan.specs.Rectangle.{Size}
+use Rattle.wcdma.specs.Turbo.{addresses, turboRule}
+use Rattle.wcdma.specs.Law.{turbo-lawful}
 
-module _ (k : ℕ) where
-  -- the first addresses from the cell on that are no padding, as many as there is room for
-  pub walk-list : (cell room : ℕ) → walkList k cell room ≡ take room (keep (address k) (inside k) cell (cells k - cell))
-  unfolding walkList
-  walk-list cell room = wrote-take (address k) (inside k) cell (cells k - cell) room
-
-  -- with room for all of it, L
-  pub walk-whole : Size k → (room : ℕ) → k ≤ room → walkList k 0 room ≡ addresses k
-  unfolding addresses
-  walk-whole size room h = walk-list 0 room ∙ rw sub-zero (take-all room (addresses k) (omega (arith, as-many k (size .high))))
+pub walk-whole : (k : ℕ) → Size k → (room : ℕ) → k ≤ room → walkList k (turboRule k) 0 room ≡ addresses k
+unfolding addresses
+walk-whole k size room h = whole-list (turbo-lawful k (size .high)) room h ∙ sym (turbo-lawful k (size .high) .list)

@@ -5,11 +5,12 @@ use mathlib.Core.Bool.{Bool, cond}
 use mathlib.Core.Path.{_≡_, refl}
 use Rattle.laws.specs.Keep.{steps}
 use Rattle.laws.specs.Once.{inside}
+use Rattle.laws.specs.Walk.{walkCells}
 use Rattle.wcdma_plan.specs.Rectangle.{rows, primes, firstPrime, prime, colsOf, cols, cells}
 use Rattle.wcdma_plan.specs.Powers.{power, firstOne, generates, rootFrom, root}
 use Rattle.wcdma_plan.specs.Numbers.{gcdIn, gcd, noDivisor, isPrime, passes, nextIn, nextQ, qOf}
 use Rattle.wcdma_plan.specs.Orders.{rowOrders, whichOrder, orderOf, rowAt}
-use Rattle.wcdma.specs.Turbo.{entry, address, walkCells}
+use Rattle.wcdma.specs.Turbo.{entry, address, turboRule}
 
 -- the cells of a walk that also passes the padding after its slice is full
 unfoldable pub eagerCells : (ℕ → ℕ) → (ℕ → Bool) → ℕ → ℕ → ℕ → ℕ
@@ -22,7 +23,7 @@ eagerCells f ok c (suc n) (suc room) =
     let rest = suc (eagerCells f ok (suc c) n (suc room)) in
     cond (ok (f c)) more rest
 
-pub five-cells : walkCells 41 0 5 ≡ 5
+pub five-cells : walkCells 41 (turboRule 41) 0 5 ≡ 5
 unfolding walkCells steps rows primes firstPrime prime colsOf cols cells power firstOne generates rootFrom root gcdIn gcd noDivisor isPrime passes nextIn nextQ qOf rowOrders whichOrder orderOf rowAt entry address
 five-cells = refl
 
@@ -31,7 +32,7 @@ unfolding eagerCells rows primes firstPrime prime colsOf cols cells power firstO
 eager-six = refl
 
 -- at that cell, with no room at all, the walk moves nothing, and this build moves on
-pub none-moves : walkCells 41 5 0 ≡ 0
+pub none-moves : walkCells 41 (turboRule 41) 5 0 ≡ 0
 unfolding walkCells steps rows primes firstPrime prime colsOf cols cells power firstOne generates rootFrom root gcdIn gcd noDivisor isPrime passes nextIn nextQ qOf rowOrders whichOrder orderOf rowAt entry address
 none-moves = refl
 

@@ -1,5 +1,5 @@
 // The walk over the cells: additions, comparisons and table reads.
-use super::TurboWalk;
+use laws::Leaf;
 use wcdma_plan::Shape;
 ghost use mathlib.Core.Path.{_≡_};
 ghost use Prim.Native.Nat.{_+_, _-_, _%_, _<_, _≤_};
@@ -96,7 +96,7 @@ pub(super) fn fill(
     fall: &[usize; 20],
     e: &mut [usize; 20],
     out: &mut [u16],
-) -> TurboWalk
+) -> Leaf
     requires { ⌜ FillIn shape cell row column (now s) (now base) (now fall) (now e) ⌝ }
     ensures { λ w. ⌜ WentOf (shape .k) cell (now (out .entry)) (now (out .exit)) w ⌝ }
 {
@@ -126,7 +126,7 @@ pub(super) fn fill(
         }
     }
     let seen = here - cell;
-    TurboWalk::Went {
+    Leaf::Went {
         written: n,
         cells: seen,
     }

@@ -3,30 +3,18 @@
 mod cells;
 mod rows;
 
+use laws::Leaf;
+use laws::Single;
 use wcdma_plan::Shape;
 ghost use mathlib.Core.Path.{_≡_};
-ghost use lib.ListN.{length};
-ghost use Rattle.laws.specs.Outcome.{judged, after};
 ghost use Rattle.laws.specs.Position.{position};
-ghost use Rattle.wcdma_plan.specs.Rectangle.{Size, cells};
-ghost use Rattle.wcdma.specs.Turbo.{turboL, turboM};
-ghost use Rattle.wcdma.specs.Answers.{searchLines, walkCounts, walkSlice, sayWalk, sayOne};
-ghost use Rattle.wcdma.specs.Post.{WalkIn, OneIn, SearchIn, SearchOf, ByIn, WentOf};
-
-// A walk: the addresses written and the cells examined, or that the search for q gave up.
-pub enum TurboWalk {
-    Went { written: usize, cells: usize },
-    GaveUp,
-}
-
-// One address or place, or that the search for q gave up.
-pub enum TurboOne {
-    At(usize),
-    Failed,
-}
+ghost use Rattle.laws.specs.Walk.{LeafOf, SingleOf};
+ghost use Rattle.wcdma_plan.specs.Rectangle.{Size};
+ghost use Rattle.wcdma.specs.Turbo.{turboL, turboM, turboRule};
+ghost use Rattle.wcdma.specs.Post.{SearchIn, SearchOf, ByIn, WentOf};
 
 // The walk once the numbers q are found: S and the rows are laid out, and the slice is filled.
-fn walk_by(shape: Shape, q: &[u32; 20], cell: usize, out: &mut [u16]) -> TurboWalk
+fn walk_by(shape: Shape, q: &[u32; 20], cell: usize, out: &mut [u16]) -> Leaf
     requires { ⌜ ByIn shape (now q) cell ⌝ }
     ensures { λ w. ⌜ WentOf (shape .k) cell (now (out .entry)) (now (out .exit)) w ⌝ }
 {
@@ -53,42 +41,42 @@ fn search(shape: Shape, q: &mut [u32; 20]) -> bool
     wcdma_plan::find_numbers(m, shape.r, q)
 }
 
-// R * C, the cells of a block.
-pub fn cells_of(k: usize) -> usize
+// The walk from any cell into the slice: it stops right after the slice is full, or at the last cell. 8 where the search for q gives up, 9 past
+// the last cell.
+pub fn walk(k: usize, cell: usize, out: &mut [u16]) -> Leaf
     requires { ⌜ Size k ⌝ }
-    ensures { λ n. ⌜ n ≡ cells k ⌝ }
-{
-    let shape = wcdma_plan::shape_of(k);
-    shape.r * shape.c
-}
-
-// The walk from a cell into the slice: it stops right after the slice is full, or at the last cell.
-pub fn walk(k: usize, cell: usize, out: &mut [u16]) -> TurboWalk
-    requires { ⌜ WalkIn k cell ⌝ }
-    ensures answer { λ r. ⌜ sayWalk r ≡ judged (λ n. n) (searchLines k) (walkCounts k cell (length (now (out .entry)))) ⌝ }
-    ensures slice { λ r. ⌜ now (out .exit) ≡ after (searchLines k) (walkSlice k cell (now (out .entry))) (now (out .entry)) ⌝ }
+    ensures { λ r. ⌜ LeafOf k (turboRule k) cell (now (out .entry)) (now (out .exit)) r ⌝ }
 {
     let shape = wcdma_plan::shape_of(k);
     let mut q = [0u32; 20];
-    if search(shape, &mut q) {
-        return walk_by(shape, &q, cell, out);
+    if !search(shape, &mut q) {
+        return Leaf::Stopped(8);
     }
-    TurboWalk::GaveUp
+    let total = shape.r * shape.c;
+    if total < cell {
+        return Leaf::Stopped(9);
+    }
+    walk_by(shape, &q, cell, out)
 }
 
-// L(t).
-pub fn address_of(k: usize, t: usize) -> TurboOne
-    requires { ⌜ OneIn k t ⌝ }
-    ensures { λ r. ⌜ sayOne r ≡ judged (λ n. n) (searchLines k) (turboL k t) ⌝ }
+// L at any position: 8, and 4 past the last.
+pub fn address_of(k: usize, t: usize) -> Single
+    requires { ⌜ Size k ⌝ }
+    ensures { λ r. ⌜ SingleOf k (turboRule k) (turboL k) t r ⌝ }
 {
     let mut table = [0u16; 5114];
     let w = walk(k, 0, &mut table);
     match w {
-        TurboWalk::Went {
+        Leaf::Stopped(x) => Single::Barred(x),
+        Leaf::Went {
             written: _,
             cells: _,
-        } => TurboOne::At(cells::wide16(table[t])),
-        TurboWalk::GaveUp => TurboOne::Failed,
+        } => {
+            if k <= t {
+                return Single::Barred(4);
+            }
+            Single::At(cells::wide16(table[t]))
+        }
     }
 }
 
@@ -106,18 +94,23 @@ fn find(list: &[u16], a: usize) -> usize
     i
 }
 
-// M(a).
-pub fn place_of(k: usize, a: usize) -> TurboOne
-    requires { ⌜ OneIn k a ⌝ }
-    ensures { λ r. ⌜ sayOne r ≡ judged (λ n. n) (searchLines k) (turboM k a) ⌝ }
+// M at any position: 8, and 4 past the last.
+pub fn place_of(k: usize, a: usize) -> Single
+    requires { ⌜ Size k ⌝ }
+    ensures { λ r. ⌜ SingleOf k (turboRule k) (turboM k) a r ⌝ }
 {
     let mut table = [0u16; 5114];
     let walked = walk(k, 0, &mut table);
     match walked {
-        TurboWalk::Went {
+        Leaf::Stopped(x) => Single::Barred(x),
+        Leaf::Went {
             written: _,
             cells: _,
-        } => TurboOne::At(find(&table[..k], a)),
-        TurboWalk::GaveUp => TurboOne::Failed,
+        } => {
+            if k <= a {
+                return Single::Barred(4);
+            }
+            Single::At(find(&table[..k], a))
+        }
     }
 }

@@ -1,5 +1,5 @@
 -- `symbols::deinterleave` meets its contract: the table has room for the set, whichever of the three it is.
-use Rattle.blocks.specs.Passed.{sizes-small}
+use Rattle.sets.specs.Carried.{sizes-small}
 use borrow.Author.Needs.{needs}
 use Rattle.symbols.proofs.deinterleave.Statement.{statement}
 use Rattle.symbols.proofs.deinterleave.Tie as tie

@@ -9,13 +9,14 @@ use native.Mathlib.Omega.{arith}
 use Rattle.laws.specs.Once.{inside}
 use Rattle.laws.specs.Members.{both}
 use Rattle.laws.specs.Written.{Written, begun, ended}
+use Rattle.laws.specs.declared.Leaf.the-variants.{Went}
+use Rattle.laws.specs.Walk.{walkCells, walkList, walkSlice}
 use Rattle.wcdma_plan.specs.Rectangle.{cells, cols}
 use Rattle.wcdma_plan.specs.Shape.{cells-le, cols-high, prime-small, product-small, rows-le, rows-pos}
 use Rattle.wcdma.proofs.Cell.{cell-on, column-fits, column-on, place-on}
 use Rattle.wcdma.proofs.Place.{Place, column-le, exponents-to, exponents-top, place-column, place-down, place-over}
 use Rattle.wcdma.specs.Post.{Exponents}
-use Rattle.wcdma.specs.Turbo.{address, walkCells, walkList}
-use Rattle.wcdma.specs.declared.TurboWalk.the-variants.{Went}
+use Rattle.wcdma.specs.Turbo.{address}
 use Rattle.wcdma.proofs.cells.fill.Statement.{statement}
 use Rattle.wcdma.proofs.cells.fill.Tie as tie
 
@@ -139,7 +140,7 @@ same-length : tie.Need-same-length Inv-loop μ-loop
 same-length c = c .before .loop .inv .2 .size
 
 returns : tie.Need-returns Inv-loop μ-loop
-unfolding cells walkList walkCells
+unfolding cells walkList walkCells walkSlice
 returns c =
     let l = c .before .loop in
     let a = c .before .before .before .before .args .shape in

@@ -1,0 +1,126 @@
+-- A family of interleavers is one rule, and a walk along it is one thing for every family: which addresses it writes, which cells it examines,
+-- what it leaves in the slice, and when it is refused. Every leaf function promises `LeafOf` or `SingleOf`; what stands above the families rests
+-- on `Lawful` and on no formula. Assumes nothing.
+use Prim.Native.Nat.{ℕ, _+_, _-_, _≤_, _<_}
+use mathlib.Core.Bool.{Bool, false}
+use mathlib.Core.List.{List, [], _∷_, _++_}
+use mathlib.Core.Path.{_≡_, ap, _∙_}
+use native.Mathlib.Nat.{sub-zero}
+use native.Mathlib.Omega.{arith}
+use lib.Dec.{ltb, leb}
+use lib.ListN.{length, take, drop}
+use lib.Seq.{take-all}
+use borrow.Author.Tests.{lt-ltb}
+use Rattle.laws.specs.declared.Leaf.{Leaf}
+use Rattle.laws.specs.declared.Leaf.the-variants.{Went, Stopped}
+use Rattle.laws.specs.declared.Single.{Single}
+use Rattle.laws.specs.declared.Single.the-variants.{At, Barred}
+use Rattle.laws.specs.Outcome.{Outcome, done, refused, Line, line, judged, after}
+use Rattle.laws.specs.Run.{run, length-run}
+use Rattle.laws.specs.Perm.{Perm, turned}
+use Rattle.laws.specs.Keep.{keep, wrote, steps, padding}
+use Rattle.laws.specs.Cut.{kept-or-padding, wrote-take}
+use Rattle.laws.specs.Once.{inside}
+use Rattle.laws.specs.Bare.{keep-bare}
+use Rattle.laws.specs.Loop.{by, by-run}
+
+-- the rule of a block of N: the cell total, and the address of a cell, which is padding exactly when its address is N or more; L, output t
+-- holds input L(t); M, input k goes to output M(k); and 8, whether the search of its set-up gives up
+pub record Rule : Type 0 where
+  pub total : ℕ
+  pub address : ℕ → ℕ
+  pub l : ℕ → ℕ
+  pub m : ℕ → ℕ
+  pub fails : Bool
+
+-- the rule the other way round: a cell is an input position, and M is walked
+abbrev pub back : ℕ → Rule → Rule
+back n r = record { total = n; address = r .m; l = r .m; m = r .l; fails = false }
+
+-- a walk along a rule from a cell, with room for so many addresses
+module _ (n : ℕ) (r : Rule) (cell : ℕ) where
+  -- the addresses that it writes: cell by cell, all that are not padding, until the room is full or no cell is left
+  unfoldable pub walkList : ℕ → List ℕ
+  walkList room = wrote (r .address) (inside n) cell (r .total - cell) room
+
+  -- the cells that it examines
+  unfoldable pub walkCells : ℕ → ℕ
+  walkCells room = steps (r .address) (inside n) cell (r .total - cell) room
+
+  -- the padding that it passes, by the test on each address from the old cell to the new
+  unfoldable pub walkPadding : ℕ → ℕ
+  walkPadding room = padding (r .address) (inside n) cell (walkCells room)
+
+  -- the slice after it: the addresses, and then what stood there
+  unfoldable pub walkSlice : List ℕ → List ℕ
+  walkSlice old = walkList (length old) ++ drop (length (walkList (length old))) old
+
+-- what a leaf walk counts
+pub record Counts : Type 0 where
+  pub written : ℕ
+  pub cells : ℕ
+
+abbrev pub counts : ℕ → ℕ → Counts
+counts w c = record { written = w; cells = c }
+
+abbrev pub walkCounts : ℕ → Rule → ℕ → ℕ → Counts
+walkCounts n r cell room = counts (length (walkList n r cell room)) (walkCells n r cell room)
+
+-- what it may be refused for: 8, then 9, that the cell is past the total
+abbrev pub leafLines : Rule → ℕ → List Line
+leafLines r cell = line 8 (r .fails) ∷ line 9 (ltb (r .total) cell) ∷ []
+
+-- and one address: 8, then 4, that the position is N or more
+abbrev pub singleLines : ℕ → Rule → ℕ → List Line
+singleLines n r x = line 8 (r .fails) ∷ line 4 (leb n x) ∷ []
+
+abbrev pub sayLeaf : Leaf → Outcome ℕ Counts
+sayLeaf (Went w c) = done (counts w c)
+sayLeaf (Stopped k) = refused k
+
+abbrev pub saySingle : Single → Outcome ℕ ℕ
+saySingle (At x) = done x
+saySingle (Barred k) = refused k
+
+-- what every leaf walk promises, from any cell
+pub record LeafOf (n : ℕ) (r : Rule) (cell : ℕ) (old new : List ℕ) (leaf : Leaf) : Type 0 where
+  pub answer : sayLeaf leaf ≡ judged (λ k. k) (leafLines r cell) (walkCounts n r cell (length old))
+  pub slice : new ≡ after (leafLines r cell) (walkSlice n r cell old) old
+
+-- what every leaf address promises, L at t or M at k, at any position
+pub record SingleOf (n : ℕ) (r : Rule) (f : ℕ → ℕ) (x : ℕ) (one : Single) : Type 0 where
+  pub answer : saySingle one ≡ judged (λ k. k) (singleLines n r x) (f x)
+
+-- the laws of a family: L and M undo each other below N; the addresses that are no padding are L, at 0 to N - 1; cells fit 16 bits
+pub record Lawful (n : ℕ) (r : Rule) : Type 0 where
+  pub perm : Perm n (r .l) (r .m)
+  pub list : keep (r .address) (inside n) 0 (r .total) ≡ run (r .l) 0 n
+  pub small : r .total < 65536
+
+module _ {n : ℕ} {r : Rule} (h : Lawful n r) where
+  pub n-le : n ≤ r .total
+  n-le = omega (arith, kept-or-padding (r .address) (inside n) 0 (r .total), ap length (h .list), length-run (r .l) 0 n)
+
+  -- M is lawful where L is
+  pub lawful-back : Lawful n (back n r)
+  lawful-back = record {
+    perm = turned (h .perm);
+    list = keep-bare (r .m) (inside n) 0 n (λ x l o. lt-ltb (r .m x) n (h .perm .m-below x (omega arith)));
+    small = omega (arith, n-le, h .small);
+  }
+
+  -- with room for N a walk from cell 0 writes L
+  pub whole-list : (room : ℕ) → n ≤ room → walkList n r 0 room ≡ run (r .l) 0 n
+  unfolding walkList
+  whole-list room o =
+      wrote-take (r .address) (inside n) 0 (r .total - 0) room
+      ∙ ap (λ (m : ℕ). take room (keep (r .address) (inside n) 0 m)) (sub-zero (r .total))
+      ∙ ap (take room) (h .list)
+      ∙ take-all room (run (r .l) 0 n) (omega (arith, length-run (r .l) 0 n))
+
+  -- and a table with room for N that it filled is L
+  pub table-is : (old : List ℕ) → n ≤ length old → (t : ℕ) → t < n → by (walkSlice n r 0 old) t ≡ r .l t
+  unfolding walkSlice
+  table-is old o t l =
+      by-run (r .l) n (walkSlice n r 0 old) (drop (length (walkList n r 0 (length old))) old)
+      (ap (λ (x : List ℕ). x ++ drop (length (walkList n r 0 (length old))) old) (whole-list (length old) o)) t l
