@@ -22,6 +22,18 @@ module _ {A : Type 0} (f : ℕ → A) (ok : A → Bool) where
       go true e = omega arith
       go false e = omega arith
 
+  -- the first m of the cells, and then the others
+  pub keep-cut : (c m n : ℕ) → keep f ok c (m + n) ≡ keep f ok c m ++ keep f ok (c + m) n
+  unfolding keep
+  keep-cut c zero n = rw (zero-add, add-zero)
+  keep-cut c (suc m) n = rw suc-add (go (ok (f c)) (keep-cut (suc c) m n ∙ rw (suc-add, add-suc)))
+    where
+      go : (b : Bool) → keep f ok (suc c) (m + n) ≡ keep f ok (suc c) m ++ keep f ok (c + suc m) n
+          → cond b (f c ∷ keep f ok (suc c) (m + n)) (keep f ok (suc c) (m + n))
+          ≡ cond b (f c ∷ keep f ok (suc c) m) (keep f ok (suc c) m) ++ keep f ok (c + suc m) n
+      go true p = ap (λ (l : List A). f c ∷ l) p
+      go false p = p
+
   -- a walk writes what the cells that it examines hold
   pub wrote-keep : (c n room : ℕ) → wrote f ok c n room ≡ keep f ok c (steps f ok c n room)
   unfolding wrote keep steps

@@ -9,6 +9,7 @@ pub mod Perm
 pub mod Move
 pub mod Keep
 pub mod Cut
+pub mod Ends
 pub mod Span
 pub mod Units
 pub mod Once
@@ -18,6 +19,7 @@ pub mod Entries
 pub mod Bare
 pub mod Loop
 pub mod Walk
+pub mod Pieces
 pub mod Leaves
 pub mod Blind
 pub mod Sentences

@@ -2,7 +2,7 @@
 -- Assumes nothing.
 use mathlib.Core.Path.{_≡_, refl, sym, ap, _∙_, subst}
 use mathlib.Core.Logic.{_≢_, ⊎-elim}
-use mathlib.Core.List.{List}
+use mathlib.Core.List.{List, [], _∷_}
 use Prim.Native.Nat.{ℕ, zero, suc, _≤_, _<_}
 use native.Mathlib.Nat.{zero-add, eq-or-lt-of-le, le-of-suc-le-suc}
 use native.Mathlib.Omega.{arith}
@@ -12,6 +12,12 @@ use Rattle.laws.specs.Run.{run, length-run, getD-run, run-same}
 use Rattle.laws.specs.Perm.{Perm}
 
 module _ {A : Type 0} where
+  -- an entry that is there needs no stand-in
+  pub getD-any : (xs : List A) (i : ℕ) (y z : A) → i < length xs → getD xs i y ≡ getD xs i z
+  getD-any [] i y z h = absurd (omega arith)
+  getD-any (x ∷ xs) zero y z h = refl
+  getD-any (x ∷ xs) (suc i) y z h = getD-any xs i y z (omega arith)
+
   -- out[t] = in[f t] for t = 0 .. n - 1; z stands in for an entry that in lacks
   unfoldable pub gather : (ℕ → ℕ) → ℕ → A → List A → List A
   gather f n z xs = run (λ t. getD xs (f t) z) 0 n
@@ -28,6 +34,11 @@ module _ {A : Type 0} where
   unfolding gather
   gather-same f g n z xs e =
       run-same (λ t. getD xs (f t) z) (λ t. getD xs (g t) z) 0 n (λ t h. ap (λ (k : ℕ). getD xs k z) (e t (omega arith)))
+
+  -- z is never read where every address is inside
+  pub gather-any : (f : ℕ → ℕ) (n : ℕ) (y z : A) (xs : List A) → ((t : ℕ) → t < n → f t < length xs) → gather f n y xs ≡ gather f n z xs
+  unfolding gather
+  gather-any f n y z xs h = run-same (λ t. getD xs (f t) y) (λ t. getD xs (f t) z) 0 n (λ t l. getD-any xs (f t) y z (h t (omega arith)))
 
   -- there and back: to gather by l and then by m changes nothing
   pub back : {n : ℕ} {l m : ℕ → ℕ} → Perm n l m → (z : A) (xs : List A) → length xs ≡ n → gather m n z (gather l n z xs) ≡ xs
@@ -55,6 +66,12 @@ module _ {A : Type 0} where
   scatter-same f g (suc n) z xs out e =
       ap (λ (l : List A). set l (f n) (getD xs n z)) (scatter-same f g n z xs out (λ t h. e t (omega arith)))
       ∙ ap (λ (k : ℕ). set (scatter g n z xs out) k (getD xs n z)) (e n (omega arith))
+
+  pub scatter-any : (f : ℕ → ℕ) (n : ℕ) (y z : A) (xs out : List A) → n ≤ length xs → scatter f n y xs out ≡ scatter f n z xs out
+  scatter-any f zero y z xs out h = refl
+  scatter-any f (suc n) y z xs out h =
+      ap (λ (l : List A). set l (f n) (getD xs n y)) (scatter-any f n y z xs out (omega arith))
+      ∙ ap (λ (v : A). set (scatter f n z xs out) (f n) v) (getD-any xs n y z (omega arith))
 
   -- to scatter by l is to gather by m, whatever stood in the output
   module _ {n : ℕ} {l m : ℕ → ℕ} (p : Perm n l m) (z : A) (xs out : List A) (e : length out ≡ n) where

@@ -11,6 +11,10 @@ pub data Outcome (R A : Type 0) : Type 0 where
   done : A → Outcome R A
   refused : R → Outcome R A
 
+-- what can be read back from what an answer says tells any two answers apart: answers that say the same are the same
+pub apart : {X Y : Type 0} (say : X → Y) (read : Y → X) → ((a : X) → read (say a) ≡ a) → (a b : X) → say a ≡ say b → a ≡ b
+apart say read same a b e = sym (same a) ∙ ap read e ∙ same b
+
 -- a line of the order of checks: its number, and whether it applies
 pub record Line : Type 0 where
   pub number : ℕ

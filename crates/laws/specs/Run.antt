@@ -2,10 +2,10 @@
 use mathlib.Core.Path.{_≡_, refl, sym, ap, _∙_, subst}
 use mathlib.Core.Logic.{⊎-elim}
 use mathlib.Core.List.{List, [], _∷_, _++_, List·Memᴰ, List·Memᴰ·head, List·Memᴰ·tail, List·Memᴰ·cases-cons, List·Memᴰ·not-nil}
-use Prim.Native.Nat.{ℕ, zero, suc, _+_, _-_, _≤_, _<_}
-use native.Mathlib.Nat.{add-zero, add-suc, suc-add, not-suc-le-zero, le-of-suc-le-suc, zero-add, eq-or-lt-of-le}
+use Prim.Native.Nat.{ℕ, zero, suc, min, _+_, _-_, _≤_, _<_}
+use native.Mathlib.Nat.{add-zero, add-suc, suc-add, suc-sub-suc, sub-zero, not-suc-le-zero, le-of-suc-le-suc, zero-add, eq-or-lt-of-le}
 use native.Mathlib.Omega.{arith}
-use lib.ListN.{length, getD}
+use lib.ListN.{length, getD, take, drop}
 use lib.Seq.{ext-getD}
 
 module _ {A : Type 0} where
@@ -28,6 +28,19 @@ module _ {A : Type 0} where
   getD-run f a (suc n) zero z h = ap f (sym (add-zero a))
   getD-run f a (suc n) (suc i) z h =
       getD-run f (suc a) n i z (le-of-suc-le-suc h) ∙ ap f (suc-add a i ∙ sym (add-suc a i))
+
+  -- its first k, and what is behind them
+  pub take-run : (f : ℕ → A) (a n k : ℕ) → take k (run f a n) ≡ run f a (min k n)
+  take-run f a zero zero = refl
+  take-run f a zero (suc k) = ap (run f a) (let e : 0 ≡ min (suc k) 0 = omega arith in e)
+  take-run f a (suc n) zero = ap (run f a) (let e : 0 ≡ min 0 (suc n) = omega arith in e)
+  take-run f a (suc n) (suc k) =
+      ap (λ (l : List A). f a ∷ l) (take-run f (suc a) n k) ∙ ap (run f a) (let e : suc (min k n) ≡ min (suc k) (suc n) = omega arith in e)
+
+  pub drop-run : (f : ℕ → A) (a n k : ℕ) → drop k (run f a n) ≡ run f (a + k) (n - k)
+  drop-run f a n zero = rw (add-zero, sub-zero)
+  drop-run f a zero (suc k) = ap (run f (a + suc k)) (let e : 0 ≡ 0 - suc k = omega arith in e)
+  drop-run f a (suc n) (suc k) = drop-run f (suc a) n k ∙ rw (suc-add, add-suc, suc-sub-suc)
 
   -- two rules that agree
   pub run-same : (f g : ℕ → A) (a n : ℕ) → ((i : ℕ) → i < a + n → f i ≡ g i) → run f a n ≡ run g a n

@@ -1,25 +1,27 @@
 -- A family of interleavers is one rule, and a walk along it is one thing for every family: which addresses it writes, which cells it examines,
 -- what it leaves in the slice, and when it is refused. Every leaf function promises `LeafOf` or `SingleOf`; what stands above the families rests
 -- on `Lawful` and on no formula. Assumes nothing.
-use Prim.Native.Nat.{ℕ, _+_, _-_, _≤_, _<_}
+use Prim.Native.Nat.{ℕ, min, _+_, _-_, _≤_, _<_}
 use mathlib.Core.Bool.{Bool, false}
 use mathlib.Core.List.{List, [], _∷_, _++_}
-use mathlib.Core.Path.{_≡_, ap, _∙_}
-use native.Mathlib.Nat.{sub-zero}
+use mathlib.Core.Path.{_≡_, sym, ap, _∙_}
+use native.Mathlib.Nat.{sub-zero, zero-add}
 use native.Mathlib.Omega.{arith}
 use lib.Dec.{ltb, leb}
 use lib.ListN.{length, take, drop}
-use lib.Seq.{take-all}
+use lib.Seq.{take-all, drop-append-seam}
 use borrow.Author.Tests.{lt-ltb}
+use Rattle.laws.specs.declared.Way.{Way}
+use Rattle.laws.specs.declared.Way.the-variants.{Interleaver, Deinterleaver}
 use Rattle.laws.specs.declared.Leaf.{Leaf}
 use Rattle.laws.specs.declared.Leaf.the-variants.{Went, Stopped}
 use Rattle.laws.specs.declared.Single.{Single}
 use Rattle.laws.specs.declared.Single.the-variants.{At, Barred}
 use Rattle.laws.specs.Outcome.{Outcome, done, refused, Line, line, judged, after}
-use Rattle.laws.specs.Run.{run, length-run}
+use Rattle.laws.specs.Run.{run, length-run, take-run, drop-run}
 use Rattle.laws.specs.Perm.{Perm, turned}
 use Rattle.laws.specs.Keep.{keep, wrote, steps, padding}
-use Rattle.laws.specs.Cut.{kept-or-padding, wrote-take}
+use Rattle.laws.specs.Cut.{kept-or-padding, wrote-take, keep-cut}
 use Rattle.laws.specs.Once.{inside}
 use Rattle.laws.specs.Bare.{keep-bare}
 use Rattle.laws.specs.Loop.{by, by-run}
@@ -36,6 +38,11 @@ pub record Rule : Type 0 where
 -- the rule the other way round: a cell is an input position, and M is walked
 abbrev pub back : ℕ → Rule → Rule
 back n r = record { total = n; address = r .m; l = r .m; m = r .l; fails = false }
+
+-- what the walk of a way goes along: L, over the cells, or M, over the input positions
+abbrev pub inWay : Way → ℕ → Rule → Rule
+inWay Interleaver n r = r
+inWay Deinterleaver n r = back n r
 
 -- a walk along a rule from a cell, with room for so many addresses
 module _ (n : ℕ) (r : Rule) (cell : ℕ) where
@@ -54,6 +61,10 @@ module _ (n : ℕ) (r : Rule) (cell : ℕ) where
   -- the slice after it: the addresses, and then what stood there
   unfoldable pub walkSlice : List ℕ → List ℕ
   walkSlice old = walkList (length old) ++ drop (length (walkList (length old))) old
+
+-- how many addresses, no padding, stand before a cell
+unfoldable pub passedBy : ℕ → Rule → ℕ → ℕ
+passedBy n r cell = length (keep (r .address) (inside n) 0 cell)
 
 -- what a leaf walk counts
 pub record Counts : Type 0 where
@@ -109,6 +120,10 @@ module _ {n : ℕ} {r : Rule} (h : Lawful n r) where
     small = omega (arith, n-le, h .small);
   }
 
+  pub lawful-in : (way : Way) → Lawful n (inWay way n r)
+  lawful-in Interleaver = h
+  lawful-in Deinterleaver = lawful-back
+
   -- with room for N a walk from cell 0 writes L
   pub whole-list : (room : ℕ) → n ≤ room → walkList n r 0 room ≡ run (r .l) 0 n
   unfolding walkList
@@ -117,6 +132,23 @@ module _ {n : ℕ} {r : Rule} (h : Lawful n r) where
       ∙ ap (λ (m : ℕ). take room (keep (r .address) (inside n) 0 m)) (sub-zero (r .total))
       ∙ ap (take room) (h .list)
       ∙ take-all room (run (r .l) 0 n) (omega (arith, length-run (r .l) 0 n))
+
+  -- from any cell, with any room, it writes L on from as many as are no padding before that cell
+  pub walk-from : (cell room : ℕ) → cell ≤ r .total
+      → walkList n r cell room ≡ run (r .l) (passedBy n r cell) (min room (n - passedBy n r cell))
+  unfolding walkList passedBy
+  walk-from cell room o =
+      let front = keep (r .address) (inside n) 0 cell in
+      let back = keep (r .address) (inside n) cell (r .total - cell) in
+      let e : front ++ back ≡ run (r .l) 0 n =
+      sym (ap (λ (c : ℕ). front ++ keep (r .address) (inside n) c (r .total - cell)) (zero-add cell))
+      ∙ sym (keep-cut (r .address) (inside n) 0 cell (r .total - cell))
+      ∙ ap (keep (r .address) (inside n) 0) (let w : cell + (r .total - cell) ≡ r .total = omega arith in w)
+      ∙ h .list in
+      wrote-take (r .address) (inside n) cell (r .total - cell) room
+      ∙ ap (take room) (sym (drop-append-seam front back) ∙ ap (drop (length front)) e ∙ drop-run (r .l) 0 n (length front))
+      ∙ take-run (r .l) (0 + length front) (n - length front) room
+      ∙ ap (λ (c : ℕ). run (r .l) c (min room (n - length front))) (zero-add (length front))
 
   -- and a table with room for N that it filled is L
   pub table-is : (old : List ℕ) → n ≤ length old → (t : ℕ) → t < n → by (walkSlice n r 0 old) t ≡ r .l t

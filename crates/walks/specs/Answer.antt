@@ -1,62 +1,50 @@
--- What the calls on a set answer: their lines in the order of document 01, 1, 2, 3, 8, 4, 9, their values, and the slice after a walk.
--- A rule is a parameter, so that both walks have one definition. Assumes nothing.
+-- What the calls on a set answer, either way: their lines in the order of document 01, 1, 2, 3, 8, 4, 9, their values, and the slice after a walk.
+-- A way is a parameter, so that both walks and both addresses have one definition.
 use Prim.Native.Nat.{ℕ, _+_}
 use mathlib.Core.List.{List, [], _∷_, _++_}
-use mathlib.Core.Path.{_≡_, ap}
-use native.Mathlib.Omega.{arith}
-use lib.Dec.{ltb, leb}
+use mathlib.Core.Path.{_≡_, refl}
 use lib.ListN.{length}
-use Rattle.laws.specs.Outcome.{Outcome, done, refused, Line, line}
-use Rattle.laws.specs.Walk.{Rule}
+use Rattle.laws.specs.declared.Way.{Way}
+use Rattle.laws.specs.Outcome.{Outcome, done, refused, apart, Line, line, judged, after}
+use Rattle.laws.specs.Walk.{leafLines, singleLines}
 use Rattle.laws.specs.Walk as along
 use Rattle.sets.specs.declared.Set.{Set}
 use Rattle.sets.specs.declared.Refusal.{Refusal}
 use Rattle.sets.specs.Profiles.{familyOf}
-use Rattle.sets.specs.Verdict.{setLines}
+use Rattle.sets.specs.Verdict.{setLines, refusal}
 use Rattle.walks.specs.declared.Walk.{Walk}
 use Rattle.walks.specs.declared.Walked.{Walked}
 use Rattle.walks.specs.declared.Walked.the-variants.{Done, Refused}
 use Rattle.walks.specs.declared.Found.{Found}
 use Rattle.walks.specs.declared.Found.the-variants as found
-use Rattle.walks.specs.Rules.{ruleOf, ruleL, ruleM, oneWay}
+use Rattle.walks.specs.Rules.{ruleOf, ruleIn, barred}
 
 -- the lines of every call on a set but its test: 1, 2, 3, then 8, that the search for q gives up
 unfoldable pub planLines : Set → List Line
 planLines s = setLines s ++ (line 8 (ruleOf s .fails) ∷ [])
 
--- 9: a walk's cell is past the total
-abbrev pub cellLine : (Set → Rule) → Walk → Line
-cellLine rule w = line 9 (ltb (rule (w .set) .total) (w .cell))
+-- a walk: 1 also where the way is M's and M is not walked, and that stands where 1 does; then 1, 2, 3, and what its rule may be refused for, 8
+-- and 9, a cell past the total
+unfoldable pub walkLines : Way → Walk → List Line
+walkLines way w = line 1 (barred way (familyOf (w .set))) ∷ (setLines (w .set) ++ leafLines (ruleIn way (w .set)) (w .cell))
 
--- 4: a single position is N or more
-abbrev pub positionLine : Set → ℕ → Line
-positionLine s x = line 4 (leb (s .n) x)
-
--- the walk for L
-unfoldable pub walkLines : Walk → List Line
-walkLines w = planLines (w .set) ++ (cellLine ruleL w ∷ [])
-
--- the walk for M: a profile whose M is not walked is refusal 1 too, and stands where 1 does; no other profile searches, so 8 is no line of it
-unfoldable pub backLines : Walk → List Line
-backLines w = line 1 (oneWay (familyOf (w .set))) ∷ (setLines (w .set) ++ (cellLine ruleM w ∷ []))
-
--- one address, either way
+-- one address, either way: 1, 2, 3, 8, and 4, a position that is N or more
 unfoldable pub oneLines : Set → ℕ → List Line
-oneLines s x = planLines s ++ (positionLine s x ∷ [])
+oneLines s x = setLines s ++ singleLines (s .n) (ruleOf s) x
 
--- a walk along a rule, with room for so many addresses: what it writes, the cells it examines, the padding it passes, the slice after it
-module _ (rule : Set → Rule) (w : Walk) where
+-- a walk with room for so many addresses: what it writes, the cells it examines, the padding it passes, the slice after it
+module _ (way : Way) (w : Walk) where
   abbrev pub walkList : ℕ → List ℕ
-  walkList = along.walkList (w .set .n) (rule (w .set)) (w .cell)
+  walkList = along.walkList (w .set .n) (ruleIn way (w .set)) (w .cell)
 
   abbrev pub walkCells : ℕ → ℕ
-  walkCells = along.walkCells (w .set .n) (rule (w .set)) (w .cell)
+  walkCells = along.walkCells (w .set .n) (ruleIn way (w .set)) (w .cell)
 
   abbrev pub walkPadding : ℕ → ℕ
-  walkPadding = along.walkPadding (w .set .n) (rule (w .set)) (w .cell)
+  walkPadding = along.walkPadding (w .set .n) (ruleIn way (w .set)) (w .cell)
 
   abbrev pub walkSlice : List ℕ → List ℕ
-  walkSlice = along.walkSlice (w .set .n) (rule (w .set)) (w .cell)
+  walkSlice = along.walkSlice (w .set .n) (ruleIn way (w .set)) (w .cell)
 
   -- the record that it gives back
   unfoldable pub walkNext : ℕ → Walk
@@ -71,8 +59,19 @@ pub record Values : Type 0 where
 abbrev pub values : ℕ → Walk → ℕ → Values
 values k n c = record { written = k; next = n; cells = c }
 
-unfoldable pub walkValues : (Set → Rule) → Walk → ℕ → Values
-walkValues rule w room = values (length (walkList rule w room)) (walkNext rule w room) (walkCells rule w room)
+unfoldable pub walkValues : Way → Walk → ℕ → Values
+walkValues way w room = values (length (walkList way w room)) (walkNext way w room) (walkCells way w room)
+
+-- what a walk has to say, with room for so many addresses, and the slice after it
+unfoldable pub walkedOf : Way → Walk → ℕ → Outcome Refusal Values
+walkedOf way w room = judged (refusal (w .set)) (walkLines way w) (walkValues way w room)
+
+unfoldable pub sliceOf : Way → Walk → List ℕ → List ℕ
+sliceOf way w old = after (walkLines way w) (walkSlice way w old) old
+
+-- what a call for one address has to say: L(x), or M(x)
+unfoldable pub foundOf : Way → Set → ℕ → Outcome Refusal ℕ
+foundOf way s x = judged (refusal s) (oneLines s x) (ruleIn way s .l x)
 
 -- what the answer of a walk says
 abbrev pub sayWalked : Walked → Outcome Refusal Values
@@ -86,18 +85,23 @@ sayFound (found.Refused x) = refused x
 
 -- two answers that say the same are the same
 pub walks-apart : (a b : Walked) → sayWalked a ≡ sayWalked b → a ≡ b
-walks-apart (Done k n c) (Done l m d) e =
-    let q : values k n c ≡ values l m d = cc in
-    let i : k ≡ l = ap (λ (v : Values). v .written) q in
-    let j : n ≡ m = ap (λ (v : Values). v .next) q in
-    let h : c ≡ d = ap (λ (v : Values). v .cells) q in
-    cc
-walks-apart (Done k n c) (Refused y) e = let z : _≡_ {A = ℕ} 0 1 = cc in absurd (omega arith)
-walks-apart (Refused x) (Done l m d) e = let z : _≡_ {A = ℕ} 0 1 = cc in absurd (omega arith)
-walks-apart (Refused x) (Refused y) e = let q : x ≡ y = cc in ap Refused q
+walks-apart = apart sayWalked read same
+  where
+    read : Outcome Refusal Values → Walked
+    read (done v) = Done (v .written) (v .next) (v .cells)
+    read (refused x) = Refused x
+
+    same : (a : Walked) → read (sayWalked a) ≡ a
+    same (Done k n c) = refl
+    same (Refused x) = refl
 
 pub founds-apart : (a b : Found) → sayFound a ≡ sayFound b → a ≡ b
-founds-apart (found.At x) (found.At y) e = let q : x ≡ y = cc in ap found.At q
-founds-apart (found.At x) (found.Refused y) e = let z : _≡_ {A = ℕ} 0 1 = cc in absurd (omega arith)
-founds-apart (found.Refused x) (found.At y) e = let z : _≡_ {A = ℕ} 0 1 = cc in absurd (omega arith)
-founds-apart (found.Refused x) (found.Refused y) e = let q : x ≡ y = cc in ap found.Refused q
+founds-apart = apart sayFound read same
+  where
+    read : Outcome Refusal ℕ → Found
+    read (done a) = found.At a
+    read (refused x) = found.Refused x
+
+    same : (a : Found) → read (sayFound a) ≡ a
+    same (found.At x) = refl
+    same (found.Refused x) = refl

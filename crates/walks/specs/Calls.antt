@@ -1,29 +1,24 @@
 -- Condition 3 for the walks, both ways: any list of calls, those that are accepted handing the record on, refused ones with any record
 -- between, joined is one walk: the same list, the same end, the same cells. A call goes through the definitions that the contracts
--- cite. Assumes nothing.
-use Prim.Native.Nat.{ℕ, _+_, _-_, _≤_}
+-- cite.
+use Prim.Native.Nat.{ℕ, _+_}
 use mathlib.Core.List.{List, [], _∷_, _++_}
 use mathlib.Core.Path.{_≡_, sym, ap, ap₂, _∙_}
-use native.Mathlib.Nat.{add-zero, zero-add}
+use native.Mathlib.Nat.{add-zero, zero-add, add-assoc}
 use native.Mathlib.Omega.{arith}
 use lib.ListN.{length, take, drop}
 use lib.Seq.{take-append-seam}
 use borrow.Author.Tests.{ltb-false, le-ltb}
-use Rattle.laws.specs.Outcome.{Outcome, done, refused, Line, line, Clear, First, first, clear, judged, after, stopped-first, clear-first, first-clear, clear-front, clear-back, clear-then}
-use Rattle.laws.specs.Keep.{steps}
-use Rattle.laws.specs.Cut.{steps-le}
-use Rattle.laws.specs.Written.{wrote-no-room, steps-no-room}
-use Rattle.laws.specs.Once.{inside}
-use Rattle.laws.specs.Walk.{Rule}
+use Rattle.laws.specs.declared.Way.{Way}
+use Rattle.laws.specs.Outcome.{Outcome, done, refused, Clear, first-clear, clear-first, clear-front, clear-back, clear-then, done-clear, clear-done, answer-keeps, answer-clear, first, clear}
+use Rattle.laws.specs.Pieces as pieces
+use Rattle.laws.specs.Walk.{leafLines}
 use Rattle.laws.specs.Walk as along
-use Rattle.sets.specs.declared.Set.{Set}
 use Rattle.sets.specs.declared.Refusal.{Refusal}
-use Rattle.sets.specs.Profiles.{familyOf}
 use Rattle.sets.specs.Verdict.{setLines, refusal}
 use Rattle.walks.specs.declared.Walk.{Walk}
-use Rattle.walks.specs.Rules.{ruleL, ruleM, oneWay}
-use Rattle.walks.specs.Answer.{planLines, cellLine, walkLines, backLines, walkList, walkCells, walkNext, walkSlice, Values, walkValues}
-use Rattle.walks.specs.Runs.{list-cut, cells-cut, next-cut}
+use Rattle.walks.specs.Rules.{ruleIn}
+use Rattle.walks.specs.Answer.{walkLines, walkList, walkCells, walkNext, walkSlice, Values, walkValues, walkedOf, sliceOf}
 
 -- a call: the record it is given, and the slice that is lent to it
 pub record Call : Type 0 where
@@ -35,15 +30,14 @@ abbrev pub told : {R B A : Type 0} → Outcome R B → (B → A) → A → A
 told (done v) f z = f v
 told (refused r) f z = z
 
--- the walk of a rule, with its lines
-module _ (rule : Set → Rule) (lines : Walk → List Line) where
+module _ (way : Way) where
   -- what a call answers
   abbrev pub answer : Call → Outcome Refusal Values
-  answer c = judged (refusal (c .walk .set)) (lines (c .walk)) (walkValues rule (c .walk) (length (c .slice)))
+  answer c = walkedOf way (c .walk) (length (c .slice))
 
   -- and leaves in the slice
   abbrev pub left : Call → List ℕ
-  left c = after (lines (c .walk)) (walkSlice rule (c .walk) (c .slice)) (c .slice)
+  left c = sliceOf way (c .walk) (c .slice)
 
   -- the addresses that calls wrote, one call after the other
   abbrev pub joined : List Call → List ℕ
@@ -65,72 +59,89 @@ module _ (rule : Set → Rule) (lines : Walk → List Line) where
   ended w [] = w
   ended w (c ∷ cs) = told (answer c) (λ v. ended (v .next) cs) (ended w cs)
 
-  -- calls that hand the record w on: an accepted one is made with the record in hand, and the others are refused
+  -- calls that hand the record w on: an accepted one is made with the record in hand and gives the next, and the others are refused
   pub data Handed : Walk → List Call → Type 0 where
     none : {w : Walk} → Handed w []
-    taken : {w : Walk} {old : List ℕ} {cs : List Call} → Clear (lines w) → Handed (walkNext rule w (length old)) cs
+    taken : {w : Walk} {old : List ℕ} {v : Values} {cs : List Call} → walkedOf way w (length old) ≡ done v → Handed (v .next) cs
         → Handed w (record { walk = w; slice = old } ∷ cs)
-    stray : {w : Walk} {c : Call} {k : ℕ} {cs : List Call} → First (lines (c .walk)) k → Handed w cs → Handed w (c ∷ cs)
+    stray : {w : Walk} {c : Call} {x : Refusal} {cs : List Call} → answer c ≡ refused x → Handed w cs → Handed w (c ∷ cs)
 
   -- they are one walk with all their room
   pub record OneWalk (w : Walk) (cs : List Call) : Type 0 where
-    pub list : joined cs ≡ walkList rule w (rooms cs)
-    pub end : ended w cs ≡ walkNext rule w (rooms cs)
-    pub cells : examined cs ≡ walkCells rule w (rooms cs)
+    pub list : joined cs ≡ walkList way w (rooms cs)
+    pub end : ended w cs ≡ walkNext way w (rooms cs)
+    pub cells : examined cs ≡ walkCells way w (rooms cs)
+
+  at-cell : (w : Walk) {a b : ℕ} → a ≡ b → _≡_ {A = Walk} (record { set = w .set; cell = a }) (record { set = w .set; cell = b })
+  at-cell w e = ap (λ (c : ℕ). record { set = w .set; cell = c }) e
 
   no-room : (w : Walk) → OneWalk w []
-  unfolding along.walkList walkNext along.walkCells
+  unfolding walkNext
   no-room w = record {
-    list = sym (wrote-no-room (rule (w .set) .address) (inside (w .set .n)) (rule (w .set) .total) (w .cell) (rule (w .set) .total - w .cell));
-    end = ap (λ (c : ℕ). record { set = w .set; cell = c }) (sym (ap (λ (c : ℕ). w .cell + c) still ∙ add-zero (w .cell)));
-    cells = sym still;
+    list = sym (pieces.no-list (w .set .n) (ruleIn way (w .set)) (w .cell));
+    end = at-cell w (sym (ap (λ (c : ℕ). w .cell + c) (pieces.no-cells (w .set .n) (ruleIn way (w .set)) (w .cell)) ∙ add-zero (w .cell)));
+    cells = sym (pieces.no-cells (w .set .n) (ruleIn way (w .set)) (w .cell));
   }
-    where
-      still : steps (rule (w .set) .address) (inside (w .set .n)) (w .cell) (rule (w .set) .total - w .cell) 0 ≡ 0
-      still = steps-no-room (rule (w .set) .address) (inside (w .set .n)) (rule (w .set) .total) (w .cell) (rule (w .set) .total - w .cell)
+
+  -- what an accepted call gave
+  module _ (w : Walk) (old : List ℕ) (v : Values) (e : walkedOf way w (length old) ≡ done v) where
+    its-values : v ≡ walkValues way w (length old)
+    unfolding walkedOf
+    its-values = sym (done-clear (refusal (w .set)) (walkValues way w (length old)) (walkLines way w) v e .1)
+
+    its-slice : take (v .written) (sliceOf way w old) ≡ walkList way w (length old)
+    unfolding sliceOf walkedOf along.walkSlice walkValues
+    its-slice =
+        ap (λ (x : Values). take (x .written) (sliceOf way w old)) its-values
+        ∙ rw (answer-clear (refusal (w .set)) (walkValues way w (length old)) (walkLines way w) e)
+        (take-append-seam (walkList way w (length old)) (drop (length (walkList way w (length old))) old))
 
   -- an accepted call, then the others
-  one-more : (w : Walk) (old : List ℕ) (cs : List Call) → Clear (lines w) → OneWalk (walkNext rule w (length old)) cs
+  one-more : (w : Walk) (old : List ℕ) (v : Values) (cs : List Call) → walkedOf way w (length old) ≡ done v → OneWalk (v .next) cs
       → OneWalk w (record { walk = w; slice = old } ∷ cs)
-  unfolding walkValues along.walkSlice
-  one-more w old cs c r = record {
-    list = rw (clear-first (lines w) c)
-        (ap₂ (λ (a b : List ℕ). a ++ b) (take-append-seam (walkList rule w (length old)) (drop (length (walkList rule w (length old))) old)) (r .list)
-        ∙ sym (list-cut rule w (length old) (rooms cs)));
-    end = rw (clear-first (lines w) c) (r .end ∙ sym (next-cut rule w (length old) (rooms cs)));
-    cells = rw (clear-first (lines w) c) (ap (λ (x : ℕ). walkCells rule w (length old) + x) (r .cells) ∙ sym (cells-cut rule w (length old) (rooms cs)));
-  }
+  unfolding walkValues walkNext
+  one-more w old v cs e r =
+      let q = its-values w old v e in
+      let next : v .next ≡ walkNext way w (length old) = ap (λ (x : Values). x .next) q in
+      let k : v .cells ≡ walkCells way w (length old) = ap (λ (x : Values). x .cells) q in
+      let n = w .set .n in
+      let rule = ruleIn way (w .set) in
+      let more = rooms cs in record {
+        list = rw e
+            (ap₂ (λ (a b : List ℕ). a ++ b) (its-slice w old v e) (r .list ∙ ap (λ (x : Walk). walkList way x more) next)
+            ∙ sym (pieces.list-cut n rule (w .cell) (length old) more));
+        end = rw e
+            (r .end ∙ ap (λ (x : Walk). walkNext way x more) next
+            ∙ at-cell w (add-assoc (w .cell) (walkCells way w (length old)) (walkCells way (walkNext way w (length old)) more)
+            ∙ ap (λ (c : ℕ). w .cell + c) (sym (pieces.cells-cut n rule (w .cell) (length old) more))));
+        cells = rw e
+            (ap₂ (λ (a b : ℕ). a + b) k (r .cells ∙ ap (λ (x : Walk). walkCells way x more) next)
+            ∙ sym (pieces.cells-cut n rule (w .cell) (length old) more));
+      }
 
   -- a refused call, then the others
-  passed-by : (w : Walk) (c : Call) (k : ℕ) (cs : List Call) → First (lines (c .walk)) k → OneWalk w cs → OneWalk w (c ∷ cs)
-  passed-by w c k cs f r = record {
-    list = rw (stopped-first (lines (c .walk)) k f) (r .list ∙ ap (walkList rule w) (sym (zero-add (rooms cs))));
-    end = rw (stopped-first (lines (c .walk)) k f) (r .end ∙ ap (walkNext rule w) (sym (zero-add (rooms cs))));
-    cells = rw (stopped-first (lines (c .walk)) k f) (zero-add (examined cs) ∙ r .cells ∙ ap (walkCells rule w) (sym (zero-add (rooms cs))));
+  passed-by : (w : Walk) (c : Call) (x : Refusal) (cs : List Call) → answer c ≡ refused x → OneWalk w cs → OneWalk w (c ∷ cs)
+  passed-by w c x cs e r = record {
+    list = rw e (r .list ∙ ap (walkList way w) (sym (zero-add (rooms cs))));
+    end = rw e (r .end ∙ ap (walkNext way w) (sym (zero-add (rooms cs))));
+    cells = rw e (zero-add (examined cs) ∙ r .cells ∙ ap (walkCells way w) (sym (zero-add (rooms cs))));
   }
 
   pub walk-cut : {w : Walk} {cs : List Call} → Handed w cs → OneWalk w cs
   walk-cut (none {w}) = no-room w
-  walk-cut (taken {w} {old} {cs} c h) = one-more w old cs c (walk-cut h)
-  walk-cut (stray {w} {c} {k} {cs} f h) = passed-by w c k cs f (walk-cut h)
+  walk-cut (taken {w} {old} {v} {cs} e h) = one-more w old v cs e (walk-cut h)
+  walk-cut (stray {w} {c} {x} {cs} e h) = passed-by w c x cs e (walk-cut h)
 
--- a record that an accepted walk gives back is accepted again
-module _ (rule : Set → Rule) (front : Set → List Line) where
-  next-in : (w : Walk) (room : ℕ) → first (front (w .set) ++ (cellLine rule w ∷ [])) ≡ clear
-      → first (front (w .set) ++ (cellLine rule (walkNext rule w room) ∷ [])) ≡ clear
-  unfolding walkNext along.walkCells
-  next-in w room e =
-      let back = first-clear (cellLine rule w ∷ []) (clear-back (front (w .set)) (cellLine rule w ∷ []) e) in
-      let h : w .cell ≤ rule (w .set) .total = ltb-false (rule (w .set) .total) (w .cell) (back .0) in
-      let l = steps-le (rule (w .set) .address) (inside (w .set .n)) (w .cell) (rule (w .set) .total - w .cell) room in
-      clear-then (front (w .set)) (cellLine rule (walkNext rule w room) ∷ []) (clear-front (front (w .set)) (cellLine rule w ∷ []) e)
-      ∙ rw (le-ltb (rule (w .set) .total) (w .cell + walkCells rule w room) (omega arith))
-
-pub next-accepted-l : (w : Walk) (room : ℕ) → Clear (walkLines w) → Clear (walkLines (walkNext ruleL w room))
-unfolding walkLines walkNext
-next-accepted-l w room c = first-clear (walkLines (walkNext ruleL w room)) (next-in ruleL planLines w room (clear-first (planLines (w .set) ++ (cellLine ruleL w ∷ [])) c))
-
-pub next-accepted-m : (w : Walk) (room : ℕ) → Clear (backLines w) → Clear (backLines (walkNext ruleM w room))
-unfolding backLines walkNext
-next-accepted-m w room c =
-    first-clear (backLines (walkNext ruleM w room)) (next-in ruleM (λ s. line 1 (oneWay (familyOf s)) ∷ setLines s) w room (clear-first (line 1 (oneWay (familyOf (w .set))) ∷ (setLines (w .set) ++ (cellLine ruleM w ∷ []))) c))
+  -- a record that an accepted walk gives back is accepted again, whatever the room
+  pub goes-on : (w : Walk) (room more : ℕ) {v : Values} → walkedOf way w room ≡ done v
+      → walkedOf way (v .next) more ≡ done (walkValues way (v .next) more)
+  unfolding walkedOf walkLines walkValues walkNext
+  goes-on w room more {v} e =
+      let done = done-clear (refusal (w .set)) (walkValues way w room) (walkLines way w) v e in
+      let back = first-clear (leafLines (ruleIn way (w .set)) (w .cell)) (clear-back (setLines (w .set)) _ (clear-first (setLines (w .set) ++ leafLines (ruleIn way (w .set)) (w .cell)) (done .0 .1))) in
+      let h = pieces.cells-within (w .set .n) (ruleIn way (w .set)) (w .cell) room (ltb-false _ _ (back .1 .0)) in
+      rw (sym (done .1))
+      (rw (done .0 .0,
+      clear-then (setLines (w .set)) _ (clear-front (setLines (w .set)) _ (clear-first (setLines (w .set) ++ leafLines (ruleIn way (w .set)) (w .cell)) (done .0 .1))),
+      back .0,
+      le-ltb (ruleIn way (w .set) .total) (w .cell + walkCells way w room) h))

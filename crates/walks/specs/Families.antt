@@ -1,20 +1,24 @@
--- What each family's leaf requires of an accepted set, and that the rule it serves is the set's. Assumes nothing.
+-- What each family's leaf requires of an accepted set, and that the rule it serves is the set's.
 use Prim.Native.Nat.{ℕ}
+use mathlib.Core.Bool.{true, false, true≢false}
 use mathlib.Core.List.{List}
-use mathlib.Core.Path.{_≡_, sym, ap₂, _∙_, subst}
+use mathlib.Core.Path.{_≡_, refl, sym, ap, ap₂, _∙_, subst}
 use native.Mathlib.Omega.{arith}
+use Rattle.laws.specs.declared.Way.{Way}
+use Rattle.laws.specs.declared.Way.the-variants.{Interleaver, Deinterleaver}
 use Rattle.laws.specs.declared.Leaf.{Leaf}
 use Rattle.laws.specs.declared.Single.{Single}
-use Rattle.laws.specs.Walk.{Rule, LeafOf, SingleOf}
+use Rattle.laws.specs.Walk.{Rule, inWay, LeafOf, SingleOf}
 use Rattle.sets.specs.declared.Set.{Set}
+use Rattle.sets.specs.declared.Family.{Family}
 use Rattle.sets.specs.declared.Family.the-variants.{Carrier, Turbo}
-use Rattle.sets.specs.Profiles.{rowsOf, groupOf}
+use Rattle.sets.specs.Profiles.{familyOf, rowsOf, groupOf}
 use Rattle.sets.specs.Carried.{carried, turbo-size}
 use Rattle.carrier.specs.Formula.{carrierRule}
 use Rattle.carrier.specs.Block.{Whole}
 use Rattle.wcdma_plan.specs.Rectangle.{Size}
 use Rattle.wcdma.specs.Turbo.{turboRule}
-use Rattle.walks.specs.Rules.{ruleOf, rule-is}
+use Rattle.walks.specs.Rules.{ruleOf, ruleIn, oneWay, barred, rule-is}
 use Rattle.walks.specs.Passed.{Taken}
 
 module _ {s : Set} (t : Taken s Carrier) {d g : ℕ} (p : d ≡ rowsOf s) (q : g ≡ groupOf s) where
@@ -31,13 +35,19 @@ module _ {s : Set} (t : Taken s Turbo) where
   pub turbo-rule : turboRule (s .n) ≡ ruleOf s
   turbo-rule = sym (rule-is s (t .which))
 
--- a promise made of one rule is one of the same rule
-module _ {n : ℕ} {q r : Rule} (e : q ≡ r) where
-  pub leaf-as : {cell : ℕ} {old new : List ℕ} {leaf : Leaf} → LeafOf n q cell old new leaf → LeafOf n r cell old new leaf
-  leaf-as {cell} {old} {new} {leaf} o = subst (λ (r : Rule). LeafOf n r cell old new leaf) e o
+-- what a leaf promises of the rule that it serves, it promises of the set's, in the way that it was asked for
+module _ (s : Set) {q : Rule} (e : q ≡ ruleOf s) (asked : Way) {way : Way} (p : way ≡ asked) where
+  pub leaf-in : {cell : ℕ} {old new : List ℕ} {leaf : Leaf} → LeafOf (s .n) (inWay asked (s .n) q) cell old new leaf
+      → LeafOf (s .n) (ruleIn way s) cell old new leaf
+  leaf-in {cell} {old} {new} {leaf} o =
+      subst (λ (r : Rule). LeafOf (s .n) r cell old new leaf) (ap₂ (λ (v : Way) (r : Rule). inWay v (s .n) r) (sym p) e) o
 
-  pub l-as : {x : ℕ} {one : Single} → SingleOf n q (q .l) x one → SingleOf n r (r .l) x one
-  l-as {x} {one} o = subst (λ (r : Rule). SingleOf n r (r .l) x one) e o
+  pub single-in : {x : ℕ} {one : Single} → SingleOf (s .n) q (inWay asked (s .n) q .l) x one → SingleOf (s .n) (ruleOf s) (ruleIn way s .l) x one
+  single-in {x} {one} o =
+      subst (λ (v : Way). SingleOf (s .n) (ruleOf s) (ruleIn v s .l) x one) (sym p)
+      (subst (λ (r : Rule). SingleOf (s .n) r (inWay asked (s .n) r .l) x one) e o)
 
-  pub m-as : {x : ℕ} {one : Single} → SingleOf n q (q .m) x one → SingleOf n r (r .m) x one
-  m-as {x} {one} o = subst (λ (r : Rule). SingleOf n r (r .m) x one) e o
+-- a family whose M is not walked is asked for L
+pub asked-for-l : (way : Way) {f g : Family} → f ≡ g → oneWay g ≡ true → barred way f ≡ false → way ≡ Interleaver
+asked-for-l Interleaver q o b = refl
+asked-for-l Deinterleaver q o b = absurd (true≢false (sym o ∙ sym (ap oneWay q) ∙ b))

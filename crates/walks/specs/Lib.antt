@@ -3,8 +3,8 @@ pub mod Answer
 pub mod Passed
 pub mod Families
 pub mod Lists
-pub mod Runs
 pub mod Calls
 pub mod Whole
+pub mod Served
 pub mod Refusals
 pub mod Wrong

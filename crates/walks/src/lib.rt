@@ -1,20 +1,23 @@
 // The public calls on a parameter set: the walk for L, the walk for M, one address either way. Every input is tested inside. Here a set is
-// tested and the call given to its family; carriers.rt and turbo.rt have the families.
+// tested and the call given to its family; carriers.rt and turbo.rt have the families. A way stands for a list: L for the interleaver, which
+// takes output t from input L(t), and M for the deinterleaver, which takes output k from input M(k).
 ghost use mathlib.Core.Path.{_≡_};
 ghost use lib.ListN.{length};
-ghost use Rattle.laws.specs.Outcome.{judged, after};
+ghost use Rattle.laws.specs.declared.Way.the-variants.{Interleaver, Deinterleaver};
 ghost use Rattle.laws.specs.Walk.{LeafOf, SingleOf, sayLeaf, saySingle};
 ghost use Rattle.laws.specs.Leaves.{Fits, Small, carry};
+ghost use Rattle.sets.specs.Profiles.{familyOf};
 ghost use Rattle.sets.specs.Verdict.{refusal};
-ghost use Rattle.walks.specs.Rules.{ruleOf, ruleL, ruleM, L, M};
-ghost use Rattle.walks.specs.Answer.{walkLines, backLines, oneLines, walkValues, walkSlice, sayWalked, sayFound};
-ghost use Rattle.walks.specs.Passed.{Passes, onward};
+ghost use Rattle.walks.specs.Rules.{ruleOf, ruleIn, barred};
+ghost use Rattle.walks.specs.Answer.{walkedOf, sliceOf, foundOf, sayWalked, sayFound};
+ghost use Rattle.walks.specs.Passed.{Accepted, Walkable, onward};
 
 mod carriers; // carriers.rt: the carrier family
 mod turbo; // turbo.rt: the turbo family
 
 use laws::Leaf;
 use laws::Single;
+use laws::Way;
 use sets::Family;
 use sets::Refusal;
 use sets::Set;
@@ -42,39 +45,41 @@ pub enum Found {
     Refused(Refusal),
 }
 
-// The walk for L of an accepted set, by family.
-fn leaf_l(set: Set, cell: usize, out: &mut [u16]) -> Leaf
-    requires { ⌜ Passes set ⌝ }
-    ensures { λ r. ⌜ LeafOf (set .n) (ruleL set) cell (now (out .entry)) (now (out .exit)) r ⌝ }
+// Whether a walk is not had: M of a family whose M is not walked.
+fn is_barred(way: Way, set: Set) -> bool
+    ensures { λ r. ⌜ r ≡ barred way (familyOf set) ⌝ }
 {
     let family = sets::family_of(set);
-    match family {
-        Family::Carrier => carriers::walk_l(set, cell, out),
-        Family::Turbo => turbo::walk_l(set, cell, out),
+    match way {
+        Way::Interleaver => false,
+        Way::Deinterleaver => match family {
+            Family::Carrier => false,
+            Family::Turbo => true,
+        },
     }
 }
 
-// L(t) of an accepted set, by family.
-fn single_l(set: Set, t: usize) -> Single
-    requires { ⌜ Passes set ⌝ }
-    ensures { λ r. ⌜ SingleOf (set .n) (ruleOf set) (L set) t r ⌝ }
+// The walk of an accepted set, by family.
+fn leaf(way: Way, set: Set, cell: usize, out: &mut [u16]) -> Leaf
+    requires { ⌜ Walkable way set ⌝ }
+    ensures { λ r. ⌜ LeafOf (set .n) (ruleIn way set) cell (now (out .entry)) (now (out .exit)) r ⌝ }
 {
     let family = sets::family_of(set);
     match family {
-        Family::Carrier => carriers::address_l(set, t),
-        Family::Turbo => turbo::address_l(set, t),
+        Family::Carrier => carriers::walk(way, set, cell, out),
+        Family::Turbo => turbo::walk(set, cell, out),
     }
 }
 
-// M(k) of an accepted set, by family.
-fn single_m(set: Set, k: usize) -> Single
-    requires { ⌜ Passes set ⌝ }
-    ensures { λ r. ⌜ SingleOf (set .n) (ruleOf set) (M set) k r ⌝ }
+// One address of an accepted set, by family.
+fn single(way: Way, set: Set, x: usize) -> Single
+    requires { ⌜ Accepted set ⌝ }
+    ensures { λ r. ⌜ SingleOf (set .n) (ruleOf set) (ruleIn way set .l) x r ⌝ }
 {
     let family = sets::family_of(set);
     match family {
-        Family::Carrier => carriers::address_m(set, k),
-        Family::Turbo => turbo::address_m(set, k),
+        Family::Carrier => carriers::address(way, set, x),
+        Family::Turbo => turbo::address(way, set, x),
     }
 }
 
@@ -113,69 +118,66 @@ fn finish_one(set: Set, one: Single) -> Found
     }
 }
 
-// The walk for L: writes the addresses of L from a cell on, cell by cell, without padding; stops right after the slice is full, or at the
-// cell total. Refusals 1, 2, 3, 8, 9.
-pub fn walk_l(w: Walk, out: &mut [u16]) -> Walked
-    ensures answer { λ r. ⌜ sayWalked r ≡ judged (refusal (w .set)) (walkLines w) (walkValues ruleL w (length (now (out .entry)))) ⌝ }
-    ensures slice { λ r. ⌜ now (out .exit) ≡ after (walkLines w) (walkSlice ruleL w (now (out .entry))) (now (out .entry)) ⌝ }
+// The walk of a way: writes the addresses of L or M from a cell on, cell by cell, without padding; stops right after the slice is full, or at
+// the cell total. Refusals 1, for M also of profile 5, 2, 3, 8, 9.
+pub fn walk_by(way: Way, w: Walk, out: &mut [u16]) -> Walked
+    ensures answer { λ r. ⌜ sayWalked r ≡ walkedOf way w (length (now (out .entry))) ⌝ }
+    ensures slice { λ r. ⌜ now (out .exit) ≡ sliceOf way w (now (out .entry)) ⌝ }
 {
     let set = w.set;
+    if is_barred(way, set) {
+        return Walked::Refused(sets::refusal_of(set, 1));
+    }
     let v = sets::test(set);
     match v {
         Verdict::Refused(x) => Walked::Refused(x),
         Verdict::Accepted => {
-            let leaf = leaf_l(set, w.cell as usize, out);
+            let leaf = leaf(way, set, w.cell as usize, out);
             finish_walk(w, leaf)
         }
     }
 }
 
-// The walk for M, carrier profiles alone: a cell is an input position. Refusals 1, also for profile 5, 2, 3, 9.
+// The walk for L.
+pub fn walk_l(w: Walk, out: &mut [u16]) -> Walked
+    ensures answer { λ r. ⌜ sayWalked r ≡ walkedOf Interleaver w (length (now (out .entry))) ⌝ }
+    ensures slice { λ r. ⌜ now (out .exit) ≡ sliceOf Interleaver w (now (out .entry)) ⌝ }
+{
+    walk_by(Way::Interleaver, w, out)
+}
+
+// The walk for M, carrier profiles alone: a cell is an input position.
 pub fn walk_m(w: Walk, out: &mut [u16]) -> Walked
-    ensures answer { λ r. ⌜ sayWalked r ≡ judged (refusal (w .set)) (backLines w) (walkValues ruleM w (length (now (out .entry)))) ⌝ }
-    ensures slice { λ r. ⌜ now (out .exit) ≡ after (backLines w) (walkSlice ruleM w (now (out .entry))) (now (out .entry)) ⌝ }
+    ensures answer { λ r. ⌜ sayWalked r ≡ walkedOf Deinterleaver w (length (now (out .entry))) ⌝ }
+    ensures slice { λ r. ⌜ now (out .exit) ≡ sliceOf Deinterleaver w (now (out .entry)) ⌝ }
 {
-    let set = w.set;
-    let family = sets::family_of(set);
-    match family {
-        Family::Turbo => Walked::Refused(sets::refusal_of(set, 1)),
-        Family::Carrier => {
-            let v = sets::test(set);
-            match v {
-                Verdict::Refused(x) => Walked::Refused(x),
-                Verdict::Accepted => {
-                    let leaf = carriers::walk_m(set, w.cell as usize, out);
-                    finish_walk(w, leaf)
-                }
-            }
+    walk_by(Way::Deinterleaver, w, out)
+}
+
+// One address, of L or M. Refusals 1, 2, 3, 8, 4.
+pub fn address_by(way: Way, set: Set, x: u32) -> Found
+    ensures { λ r. ⌜ sayFound r ≡ foundOf way set x ⌝ }
+{
+    let v = sets::test(set);
+    match v {
+        Verdict::Refused(x) => Found::Refused(x),
+        Verdict::Accepted => {
+            let one = single(way, set, x as usize);
+            finish_one(set, one)
         }
     }
 }
 
-// L(t): the input index that output t holds. Refusals 1, 2, 3, 8, 4.
+// L(t): the input index that output t holds.
 pub fn address_l(set: Set, t: u32) -> Found
-    ensures { λ r. ⌜ sayFound r ≡ judged (refusal set) (oneLines set t) (L set t) ⌝ }
+    ensures { λ r. ⌜ sayFound r ≡ foundOf Interleaver set t ⌝ }
 {
-    let v = sets::test(set);
-    match v {
-        Verdict::Refused(x) => Found::Refused(x),
-        Verdict::Accepted => {
-            let one = single_l(set, t as usize);
-            finish_one(set, one)
-        }
-    }
+    address_by(Way::Interleaver, set, t)
 }
 
-// M(k): the output index that input k goes to. Refusals 1, 2, 3, 8, 4.
+// M(k): the output index that input k goes to.
 pub fn address_m(set: Set, k: u32) -> Found
-    ensures { λ r. ⌜ sayFound r ≡ judged (refusal set) (oneLines set k) (M set k) ⌝ }
+    ensures { λ r. ⌜ sayFound r ≡ foundOf Deinterleaver set k ⌝ }
 {
-    let v = sets::test(set);
-    match v {
-        Verdict::Refused(x) => Found::Refused(x),
-        Verdict::Accepted => {
-            let one = single_m(set, k as usize);
-            finish_one(set, one)
-        }
-    }
+    address_by(Way::Deinterleaver, set, k)
 }

@@ -1,29 +1,26 @@
 // An accepted set of the turbo family: its K, and the leaf that is asked. M is not walked.
 use laws::Leaf;
 use laws::Single;
+use laws::Way;
 use sets::Set;
 ghost use Rattle.laws.specs.Walk.{LeafOf, SingleOf};
 ghost use Rattle.sets.specs.declared.Family.the-variants.{Turbo};
-ghost use Rattle.walks.specs.Rules.{ruleOf, ruleL, L, M};
+ghost use Rattle.walks.specs.Rules.{ruleOf, ruleIn};
 ghost use Rattle.walks.specs.Passed.{Taken};
 
-pub(super) fn walk_l(set: Set, cell: usize, out: &mut [u16]) -> Leaf
+pub(super) fn walk(set: Set, cell: usize, out: &mut [u16]) -> Leaf
     requires { ⌜ Taken set Turbo ⌝ }
-    ensures { λ r. ⌜ LeafOf (set .n) (ruleL set) cell (now (out .entry)) (now (out .exit)) r ⌝ }
+    ensures { λ r. ⌜ LeafOf (set .n) (ruleOf set) cell (now (out .entry)) (now (out .exit)) r ⌝ }
 {
     wcdma::walk(set.n as usize, cell, out)
 }
 
-pub(super) fn address_l(set: Set, t: usize) -> Single
+pub(super) fn address(way: Way, set: Set, x: usize) -> Single
     requires { ⌜ Taken set Turbo ⌝ }
-    ensures { λ r. ⌜ SingleOf (set .n) (ruleOf set) (L set) t r ⌝ }
+    ensures { λ r. ⌜ SingleOf (set .n) (ruleOf set) (ruleIn way set .l) x r ⌝ }
 {
-    wcdma::address_of(set.n as usize, t)
-}
-
-pub(super) fn address_m(set: Set, k: usize) -> Single
-    requires { ⌜ Taken set Turbo ⌝ }
-    ensures { λ r. ⌜ SingleOf (set .n) (ruleOf set) (M set) k r ⌝ }
-{
-    wcdma::place_of(set.n as usize, k)
+    match way {
+        Way::Interleaver => wcdma::address_of(set.n as usize, x),
+        Way::Deinterleaver => wcdma::place_of(set.n as usize, x),
+    }
 }

@@ -1,0 +1,63 @@
+-- `walks::carriers::address` is the set's L or M: the leaf's, at the set's d, N and s.
+use Rattle.laws.specs.declared.Way.the-variants.{Interleaver, Deinterleaver}
+use Rattle.walks.specs.Families.{carrier-whole, carrier-rule, single-in}
+use borrow.Author.Needs.{needs}
+use Rattle.walks.proofs.carriers.address.Statement.{statement}
+use Rattle.walks.proofs.carriers.address.Tie as tie
+
+rows-of-requires : tie.Need-rows-of-requires
+rows-of-requires c κs = search needs
+
+cast-d : tie.Need-cast-d
+cast-d c = search needs
+
+group-of-requires : tie.Need-group-of-requires
+group-of-requires c κs = search needs
+
+cast-s : tie.Need-cast-s
+cast-s c = search needs
+
+enum-told : tie.Need-enum-told
+enum-told c = search needs
+
+cast-one : tie.Need-cast-one
+cast-one c = search needs
+
+one-requires : tie.Need-one-requires
+one-requires c κs =
+    carrier-whole (c .before .before .before .before .before .pre) (c .before .before .before .before .rows-of .ensures) (c .before .before .before .group-of .ensures .0)
+
+enum-told-2 : tie.Need-enum-told-2
+enum-told-2 c = search needs
+
+cast-one-2 : tie.Need-cast-one-2
+cast-one-2 c = search needs
+
+one-requires-2 : tie.Need-one-requires-2
+one-requires-2 c κs =
+    carrier-whole (c .before .before .before .before .before .pre) (c .before .before .before .before .rows-of .ensures) (c .before .before .before .group-of .ensures .0)
+
+returns : tie.Need-returns
+returns c =
+    single-in _ (carrier-rule (c .before .before .before .before .before .before .pre) (c .before .before .before .before .before .rows-of .ensures) (c .before .before .before .before .group-of .ensures .0)) Interleaver (c .before .before .enum-told .given .1) (c .one .ensures)
+
+returns-2 : tie.Need-returns-2
+returns-2 c =
+    single-in _ (carrier-rule (c .before .before .before .before .before .before .pre) (c .before .before .before .before .before .rows-of .ensures) (c .before .before .before .before .group-of .ensures .0)) Deinterleaver (c .before .before .enum-told2 .given .1) (c .one2 .ensures)
+
+pub address-spec : {M : Type 1} → statement M
+address-spec =
+    tie.close
+    (tie.spec
+    rows-of-requires
+    cast-d
+    group-of-requires
+    cast-s
+    enum-told
+    cast-one
+    one-requires
+    enum-told-2
+    cast-one-2
+    one-requires-2
+    returns
+    returns-2)

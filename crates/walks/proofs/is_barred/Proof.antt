@@ -1,0 +1,45 @@
+-- `walks::is_barred` says whether a walk is not had.
+use mathlib.Core.Path.{sym, ap₂, _∙_}
+use Rattle.walks.specs.Rules.{barred}
+use borrow.Author.Needs.{needs}
+use Rattle.walks.proofs.is_barred.Statement.{statement}
+use Rattle.walks.proofs.is_barred.Tie as tie
+
+family-of-requires : tie.Need-family-of-requires
+family-of-requires c κs = search needs
+
+enum-told : tie.Need-enum-told
+enum-told c = search needs
+
+enum-told-2 : tie.Need-enum-told-2
+enum-told-2 c = search needs
+
+enum-told-3 : tie.Need-enum-told-3
+enum-told-3 c = search needs
+
+enum-told-4 : tie.Need-enum-told-4
+enum-told-4 c = search needs
+
+returns : tie.Need-returns
+returns c = search needs
+
+returns-2 : tie.Need-returns-2
+returns-2 c =
+    sym (ap₂ barred (c .before .before .enum-told2 .given .1) (sym (c .before .before .before .before .family-of .ensures) ∙ c .enum-told3 .given .1))
+
+returns-3 : tie.Need-returns-3
+returns-3 c =
+    sym (ap₂ barred (c .before .before .enum-told2 .given .1) (sym (c .before .before .before .before .family-of .ensures) ∙ c .enum-told4 .given .1))
+
+pub is-barred-spec : {M : Type 1} → statement M
+is-barred-spec =
+    tie.close
+    (tie.spec
+    family-of-requires
+    enum-told
+    enum-told-2
+    enum-told-3
+    enum-told-4
+    returns
+    returns-2
+    returns-3)

@@ -1,0 +1,51 @@
+-- `walks::leaf` gives the walk to the family of the set.
+use mathlib.Core.Path.{refl, sym, _∙_}
+use Rattle.laws.specs.declared.Way.the-variants.{Interleaver}
+use Rattle.walks.specs.Families.{asked-for-l, leaf-in}
+use borrow.Author.Needs.{needs}
+use Rattle.walks.proofs.leaf.Statement.{statement}
+use Rattle.walks.proofs.leaf.Tie as tie
+
+family-of-requires : tie.Need-family-of-requires
+family-of-requires c κs = search needs
+
+enum-told : tie.Need-enum-told
+enum-told c = search needs
+
+walk-requires : tie.Need-walk-requires
+walk-requires c κs =
+    record { accepted = c .before .before .before .before .before .pre .accepted; which = sym (c .before .before .before .family-of .ensures) ∙ c .before .enum-told .given .1 }
+
+enum-told-2 : tie.Need-enum-told-2
+enum-told-2 c = search needs
+
+walk-requires-2 : tie.Need-walk-requires-2
+walk-requires-2 c κs =
+    record { accepted = c .before .before .before .before .before .pre .accepted; which = sym (c .before .before .before .family-of .ensures) ∙ c .before .enum-told2 .given .1 }
+
+same-length : tie.Need-same-length
+same-length c = search needs
+
+returns : tie.Need-returns
+returns c = search needs
+
+same-length-2 : tie.Need-same-length-2
+same-length-2 c = search needs
+
+returns-2 : tie.Need-returns-2
+returns-2 c =
+    leaf-in _ refl Interleaver (asked-for-l (c .before .before .before .before .before .before .before .before .args .way) (sym (c .before .before .before .before .before .before .family-of .ensures) ∙ c .before .before .before .before .enum-told2 .given .1) refl (c .before .before .before .before .before .before .before .before .pre .had)) (c .before .before .walk2 .ensures)
+
+pub leaf-spec : {M : Type 1} → statement M
+leaf-spec =
+    tie.close
+    (tie.spec
+    family-of-requires
+    enum-told
+    walk-requires
+    enum-told-2
+    walk-requires-2
+    same-length
+    returns
+    same-length-2
+    returns-2)

@@ -1,0 +1,45 @@
+-- `walks::turbo::address` is the set's L or M: the leaf's, at the set's K.
+use Rattle.laws.specs.declared.Way.the-variants.{Interleaver, Deinterleaver}
+use Rattle.walks.specs.Families.{turbo-sized, turbo-rule, single-in}
+use borrow.Author.Needs.{needs}
+use Rattle.walks.proofs.turbo.address.Statement.{statement}
+use Rattle.walks.proofs.turbo.address.Tie as tie
+
+enum-told : tie.Need-enum-told
+enum-told c = search needs
+
+cast-address-of : tie.Need-cast-address-of
+cast-address-of c = search needs
+
+address-of-requires : tie.Need-address-of-requires
+address-of-requires c κs = turbo-sized (c .before .before .before .pre)
+
+enum-told-2 : tie.Need-enum-told-2
+enum-told-2 c = search needs
+
+cast-place-of : tie.Need-cast-place-of
+cast-place-of c = search needs
+
+place-of-requires : tie.Need-place-of-requires
+place-of-requires c κs = turbo-sized (c .before .before .before .pre)
+
+returns : tie.Need-returns
+returns c =
+    single-in _ (turbo-rule (c .before .before .before .before .pre)) Interleaver (c .before .before .enum-told .given .1) (c .address-of .ensures)
+
+returns-2 : tie.Need-returns-2
+returns-2 c =
+    single-in _ (turbo-rule (c .before .before .before .before .pre)) Deinterleaver (c .before .before .enum-told2 .given .1) (c .place-of .ensures)
+
+pub address-spec : {M : Type 1} → statement M
+address-spec =
+    tie.close
+    (tie.spec
+    enum-told
+    cast-address-of
+    address-of-requires
+    enum-told-2
+    cast-place-of
+    place-of-requires
+    returns
+    returns-2)
