@@ -1,5 +1,5 @@
--- A wrong build that no edit gives without the proof losing its shape, as a definition, and where it differs: one that takes a value of zero for padding and skips
--- it. Both sides are computed, for two symbols that change places. Assumes nothing.
+-- A wrong build, stated as a definition: one that takes a value of zero for padding and skips it; and where it differs. Both sides are computed, for
+-- two symbols that change places.
 use Prim.Native.Nat.{ℕ, _-_}
 use mathlib.Core.Bool.{cond}
 use mathlib.Core.List.{List, [], _∷_}

@@ -1,24 +1,24 @@
 // Whole blocks of f32 soft values. A value is moved and never looked at: zero, minus zero and not-a-number are values like any other.
-use super::LARGE;
-use super::MIDDLE;
-use super::Moved;
-use super::SMALL;
-use super::plan_block;
+use laws::Way;
 use sets::Set;
+use tables::LARGE;
+use tables::MIDDLE;
+use tables::Moved;
+use tables::SMALL;
 ghost use mathlib.Core.Path.{_≡_};
-ghost use Prim.Native.Nat.{_≤_};
 ghost use lib.Ieee.{nan};
 ghost use lib.ListN.{length};
-ghost use Rattle.laws.specs.Move.{gather, scatter};
-ghost use Rattle.laws.specs.Loop.{by, Within};
-ghost use Rattle.blocks.specs.Answer.{movedOf, sayMoved, interleaved, deinterleaved};
-ghost use Rattle.blocks.specs.Passed.{Roomy};
+ghost use Rattle.laws.specs.declared.Way.the-variants.{Interleaver, Deinterleaver};
+ghost use Rattle.laws.specs.Loop.{by};
+ghost use Rattle.tables.specs.Answer.{movedOf, sayMoved};
+ghost use Rattle.tables.specs.Moves.{Fitting, movedBy};
+ghost use Rattle.tables.specs.Passed.{Roomy};
+ghost use Rattle.blocks.specs.Answer.{moved};
 
 // dst[t] = src[table[t]].
 fn gather_by(table: &[u16], src: &[f32], dst: &mut [f32])
-    requires { ⌜ length (now dst) ≤ length (now table) ⌝ }
-    requires { ⌜ Within (now table) (length (now dst)) (length (now src)) ⌝ }
-    ensures { λ _. ⌜ now (dst .exit) ≡ gather (by (now (table .entry))) (length (now (dst .entry))) nan (now (src .entry)) ⌝ }
+    requires { ⌜ Fitting (now table) (now src) (now dst) ⌝ }
+    ensures { λ _. ⌜ now (dst .exit) ≡ movedBy Interleaver (by (now (table .entry))) (length (now (src .entry))) nan (now (src .entry)) (now (dst .entry)) ⌝ }
 {
     let mut i = 0;
     while i < dst.len() {
@@ -30,9 +30,8 @@ fn gather_by(table: &[u16], src: &[f32], dst: &mut [f32])
 
 // dst[table[t]] = src[t].
 fn scatter_by(table: &[u16], src: &[f32], dst: &mut [f32])
-    requires { ⌜ length (now src) ≤ length (now table) ⌝ }
-    requires { ⌜ Within (now table) (length (now src)) (length (now dst)) ⌝ }
-    ensures { λ _. ⌜ now (dst .exit) ≡ scatter (by (now (table .entry))) (length (now (src .entry))) nan (now (src .entry)) (now (dst .entry)) ⌝ }
+    requires { ⌜ Fitting (now table) (now src) (now dst) ⌝ }
+    ensures { λ _. ⌜ now (dst .exit) ≡ movedBy Deinterleaver (by (now (table .entry))) (length (now (src .entry))) nan (now (src .entry)) (now (dst .entry)) ⌝ }
 {
     let mut i = 0;
     while i < src.len() {
@@ -42,70 +41,55 @@ fn scatter_by(table: &[u16], src: &[f32], dst: &mut [f32])
     }
 }
 
-// Interleaves by a lent table.
-fn interleave_by(set: Set, table: &mut [u16], src: &[f32], dst: &mut [f32]) -> Moved
+// Moves a block by a lent table.
+fn move_by(way: Way, set: Set, table: &mut [u16], src: &[f32], dst: &mut [f32]) -> Moved
     requires { ⌜ Roomy set (now table) ⌝ }
-    ensures answer { λ r. ⌜ sayMoved r ≡ movedOf set (length (now (src .entry))) (length (now (dst .entry))) ⌝ }
-    ensures output { λ r. ⌜ now (dst .exit) ≡ interleaved set nan (now (src .entry)) (now (dst .entry)) ⌝ }
+    ensures answer { λ r. ⌜ sayMoved r ≡ movedOf set (set .n) (length (now (src .entry))) (length (now (dst .entry))) ⌝ }
+    ensures output { λ r. ⌜ now (dst .exit) ≡ moved way set nan (now (src .entry)) (now (dst .entry)) ⌝ }
 {
-    let m = plan_block(set, src.len(), dst.len(), table);
+    let m = tables::fill(set, set.n as usize, src.len(), dst.len(), table);
     match m {
         Moved::Refused(x) => Moved::Refused(x),
         Moved::Done => {
-            gather_by(table, src, dst);
+            match way {
+                Way::Interleaver => gather_by(table, src, dst),
+                Way::Deinterleaver => scatter_by(table, src, dst),
+            }
             Moved::Done
         }
     }
 }
 
-// Deinterleaves by a lent table.
-fn deinterleave_by(set: Set, table: &mut [u16], src: &[f32], dst: &mut [f32]) -> Moved
-    requires { ⌜ Roomy set (now table) ⌝ }
-    ensures answer { λ r. ⌜ sayMoved r ≡ movedOf set (length (now (src .entry))) (length (now (dst .entry))) ⌝ }
-    ensures output { λ r. ⌜ now (dst .exit) ≡ deinterleaved set nan (now (src .entry)) (now (dst .entry)) ⌝ }
+// Moves a block of N soft values, either way. Refusals 1, 2, 3, 8, 5, 6.
+pub fn move_block(way: Way, set: Set, src: &[f32], dst: &mut [f32]) -> Moved
+    ensures answer { λ r. ⌜ sayMoved r ≡ movedOf set (set .n) (length (now (src .entry))) (length (now (dst .entry))) ⌝ }
+    ensures output { λ r. ⌜ now (dst .exit) ≡ moved way set nan (now (src .entry)) (now (dst .entry)) ⌝ }
 {
-    let m = plan_block(set, src.len(), dst.len(), table);
-    match m {
-        Moved::Refused(x) => Moved::Refused(x),
-        Moved::Done => {
-            scatter_by(table, src, dst);
-            Moved::Done
-        }
+    let n = tables::size_of(set);
+    if n <= SMALL {
+        let mut table = [0u16; SMALL];
+        return move_by(way, set, &mut table, src, dst);
     }
+    if n <= MIDDLE {
+        let mut table = [0u16; MIDDLE];
+        return move_by(way, set, &mut table, src, dst);
+    }
+    let mut table = [0u16; LARGE];
+    move_by(way, set, &mut table, src, dst)
 }
 
-// Interleaves N soft values: dst[t] = src[L(t)]. Refusals 1, 2, 3, 8, 5, 6.
+// Interleaves N soft values: dst[t] = src[L(t)].
 pub fn interleave(set: Set, src: &[f32], dst: &mut [f32]) -> Moved
-    ensures answer { λ r. ⌜ sayMoved r ≡ movedOf set (length (now (src .entry))) (length (now (dst .entry))) ⌝ }
-    ensures output { λ r. ⌜ now (dst .exit) ≡ interleaved set nan (now (src .entry)) (now (dst .entry)) ⌝ }
+    ensures answer { λ r. ⌜ sayMoved r ≡ movedOf set (set .n) (length (now (src .entry))) (length (now (dst .entry))) ⌝ }
+    ensures output { λ r. ⌜ now (dst .exit) ≡ moved Interleaver set nan (now (src .entry)) (now (dst .entry)) ⌝ }
 {
-    let n = set.n as usize;
-    if n <= SMALL {
-        let mut table = [0u16; SMALL];
-        return interleave_by(set, &mut table, src, dst);
-    }
-    if n <= MIDDLE {
-        let mut table = [0u16; MIDDLE];
-        return interleave_by(set, &mut table, src, dst);
-    }
-    let mut table = [0u16; LARGE];
-    interleave_by(set, &mut table, src, dst)
+    move_block(Way::Interleaver, set, src, dst)
 }
 
-// Deinterleaves N soft values: dst[L(t)] = src[t]. Refusals 1, 2, 3, 8, 5, 6.
+// Deinterleaves N soft values: dst[L(t)] = src[t].
 pub fn deinterleave(set: Set, src: &[f32], dst: &mut [f32]) -> Moved
-    ensures answer { λ r. ⌜ sayMoved r ≡ movedOf set (length (now (src .entry))) (length (now (dst .entry))) ⌝ }
-    ensures output { λ r. ⌜ now (dst .exit) ≡ deinterleaved set nan (now (src .entry)) (now (dst .entry)) ⌝ }
+    ensures answer { λ r. ⌜ sayMoved r ≡ movedOf set (set .n) (length (now (src .entry))) (length (now (dst .entry))) ⌝ }
+    ensures output { λ r. ⌜ now (dst .exit) ≡ moved Deinterleaver set nan (now (src .entry)) (now (dst .entry)) ⌝ }
 {
-    let n = set.n as usize;
-    if n <= SMALL {
-        let mut table = [0u16; SMALL];
-        return deinterleave_by(set, &mut table, src, dst);
-    }
-    if n <= MIDDLE {
-        let mut table = [0u16; MIDDLE];
-        return deinterleave_by(set, &mut table, src, dst);
-    }
-    let mut table = [0u16; LARGE];
-    deinterleave_by(set, &mut table, src, dst)
+    move_block(Way::Deinterleaver, set, src, dst)
 }

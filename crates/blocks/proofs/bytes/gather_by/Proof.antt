@@ -1,8 +1,10 @@
 -- `blocks::bytes::gather_by` gathers by the table. The loop's invariant: the first i entries are in place; the measure is what is left.
-use Prim.Native.Nat.{_-_}
+use Prim.Native.Nat.{ℕ, _-_}
+use mathlib.Core.Path.{ap, _∙_}
 use native.Mathlib.Omega.{arith}
 use lib.ListN.{length}
-use Rattle.laws.specs.Loop.{Gathered, gather-first, gather-more, gather-all}
+use Rattle.laws.specs.Move.{gather}
+use Rattle.laws.specs.Loop.{by, Gathered, gather-first, gather-more, gather-all}
 use Rattle.blocks.proofs.bytes.gather_by.Statement.{statement}
 use Rattle.blocks.proofs.bytes.gather_by.Tie as tie
 
@@ -16,10 +18,10 @@ loop-holds : tie.Need-loop-holds Inv-loop μ-loop
 loop-holds c = gather-first (c .args .table .now) 0 (c .args .src .now) (c .args .dst .now)
 
 mul-a : tie.Need-mul-a Inv-loop μ-loop
-mul-a c = omega (arith, c .before .before .pre .0, c .before .loop .inv .filled .long, c .loop-test .taken, c .before .before .good)
+mul-a c = omega (arith, c .before .before .pre .room, c .before .before .pre .same, c .before .loop .inv .filled .long, c .loop-test .taken, c .before .before .good)
 
 shared-slice-read-a : tie.Need-shared-slice-read-a Inv-loop μ-loop
-shared-slice-read-a c = omega (arith, c .before .before .before .pre .0, c .before .before .loop .inv .filled .long, c .before .loop-test .taken)
+shared-slice-read-a c = omega (arith, c .before .before .before .pre .room, c .before .before .before .pre .same, c .before .before .loop .inv .filled .long, c .before .loop-test .taken)
 
 cast-a : tie.Need-cast-a Inv-loop μ-loop
 cast-a c = omega (arith, c .shared-slice-known .given (c .before .before .loop .i))
@@ -27,7 +29,8 @@ cast-a c = omega (arith, c .shared-slice-known .given (c .before .before .loop .
 shared-slice-read-dst : tie.Need-shared-slice-read-dst Inv-loop μ-loop
 shared-slice-read-dst c =
     let l = c .before .before .before .loop in
-    c .before .before .before .before .pre .1 (l .i) (omega (arith, l .inv .filled .long, c .before .before .loop-test .taken))
+    let p = c .before .before .before .before .pre in
+    p .within (l .i) (omega (arith, p .same, l .inv .filled .long, c .before .before .loop-test .taken))
 
 slice-write-dst : tie.Need-slice-write-dst Inv-loop μ-loop
 slice-write-dst c = c .before .before .loop-test .taken
@@ -47,7 +50,10 @@ same-length : tie.Need-same-length Inv-loop μ-loop
 same-length c = c .before .loop .inv .filled .long
 
 returns : tie.Need-returns Inv-loop μ-loop
-returns c = let a = c .before .before .args in gather-all (a .table .now) 0 (a .src .now) (a .dst .now) (c .before .loop .inv) (c .loop-test .left)
+returns c =
+    let a = c .before .before .args in
+    gather-all (a .table .now) 0 (a .src .now) (a .dst .now) (c .before .loop .inv) (c .loop-test .left)
+    ∙ ap (λ (n : ℕ). gather (by (a .table .now)) n 0 (a .src .now)) (c .before .before .pre .same)
 
 pub gather-by-spec : {M : Type 1} → statement M
 gather-by-spec =

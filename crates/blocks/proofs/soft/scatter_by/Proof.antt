@@ -17,10 +17,10 @@ loop-holds : tie.Need-loop-holds Inv-loop μ-loop
 loop-holds c = scatter-first (c .args .table .now) nan (c .args .src .now) (c .args .dst .now)
 
 mul-a : tie.Need-mul-a Inv-loop μ-loop
-mul-a c = omega (arith, c .before .before .pre .0, c .loop-test .taken, c .before .before .good)
+mul-a c = omega (arith, c .before .before .pre .room, c .loop-test .taken, c .before .before .good)
 
 shared-slice-read-a : tie.Need-shared-slice-read-a Inv-loop μ-loop
-shared-slice-read-a c = omega (arith, c .before .before .before .pre .0, c .before .loop-test .taken)
+shared-slice-read-a c = omega (arith, c .before .before .before .pre .room, c .before .loop-test .taken)
 
 cast-a : tie.Need-cast-a Inv-loop μ-loop
 cast-a c = omega (arith, c .shared-slice-known .given (c .before .before .loop .i))
@@ -37,7 +37,8 @@ mul-dst-2 c = omega (arith, c .before .shared-slice-known .given (c .before .bef
 slice-write-dst : tie.Need-slice-write-dst Inv-loop μ-loop
 slice-write-dst c =
     let l = c .before .before .before .loop in
-    omega (arith, l .inv .long, c .before .before .before .before .pre .1 (l .i) (c .before .before .loop-test .taken))
+    let p = c .before .before .before .before .pre in
+    omega (arith, p .same, l .inv .long, p .within (l .i) (c .before .before .loop-test .taken))
 
 add-i : tie.Need-add-i Inv-loop μ-loop
 add-i c = omega arith

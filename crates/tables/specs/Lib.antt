@@ -1,0 +1,4 @@
+pub mod Answer
+pub mod Moves
+pub mod Passed
+pub mod Refusals
