@@ -1,37 +1,20 @@
--- A whole block of N symbols, each of w bytes, interleaved or deinterleaved: the lines of the call in the order of document 01, 1, 2, 3, 8,
--- 5, 6, and the output after it. Over any element in place of a byte. Assumes nothing.
+-- A whole block of N symbols, each of w bytes, moved either way: the output after the call. Over any element in place of a byte.
 use Prim.Native.Nat.{ℕ, _*_}
-use mathlib.Core.Bool.{not}
-use mathlib.Core.List.{List, [], _∷_, _++_}
-use lib.Dec.{eqb}
+use mathlib.Core.List.{List, []}
 use lib.ListN.{length}
-use Rattle.laws.specs.Outcome.{Outcome, Line, line, judged, after}
-use Rattle.laws.specs.Move.{gather, scatter}
+use Rattle.laws.specs.declared.Way.{Way}
+use Rattle.laws.specs.Outcome.{after}
 use Rattle.sets.specs.declared.Set.{Set}
-use Rattle.sets.specs.declared.Refusal.{Refusal}
-use Rattle.sets.specs.Verdict.{refusal}
-use Rattle.walks.specs.Answer.{planLines}
 use Rattle.walks.specs.Rules.{L}
+use Rattle.tables.specs.Answer.{blockLines}
+use Rattle.tables.specs.Moves.{movedBy}
 use Rattle.symbols.specs.Groups.{groups, joined}
 
--- 5: input length isn't N · w; 6: output length isn't N · w
-abbrev pub sizeLines : Set → ℕ → ℕ → ℕ → List Line
-sizeLines s w i o = line 5 (not (eqb i (s .n * w))) ∷ line 6 (not (eqb o (s .n * w))) ∷ []
+-- n symbols of w entries moved by a list: the groups of w are moved, and joined again. [] is getD's default: an accepted call never reads it
+abbrev pub symbolsBy : {A : Type 0} → Way → (ℕ → ℕ) → ℕ → ℕ → List A → List A → List A
+symbolsBy way l n w src dst = joined (movedBy way l n [] (groups w n src) (groups w n dst))
 
-unfoldable pub symbolLines : Set → ℕ → ℕ → ℕ → List Line
-symbolLines s w i o = planLines s ++ sizeLines s w i o
-
--- what a call has to say, for an input and an output of these lengths; an answer says it by `sayMoved` of `blocks`
-abbrev pub movedSymbols : Set → ℕ → ℕ → ℕ → Outcome Refusal (Unit {0})
-movedSymbols s w i o = judged (refusal s) (symbolLines s w i o) tt
-
-module _ {A : Type 0} (s : Set) (w : ℕ) (src dst : List A) where
-  -- the output after interleaving: symbol t of it is symbol L(t) of the input. [] stands in for a symbol that an input of N does not lack
-  unfoldable pub interleavedSymbols : List A
-  interleavedSymbols =
-      after (symbolLines s w (length src) (length dst)) (joined (gather (L s) (s .n) [] (groups w (s .n) src))) dst
-
-  -- and after deinterleaving: symbol L(t) of it is symbol t of the input
-  unfoldable pub deinterleavedSymbols : List A
-  deinterleavedSymbols =
-      after (symbolLines s w (length src) (length dst)) (joined (scatter (L s) (s .n) [] (groups w (s .n) src) (groups w (s .n) dst))) dst
+-- symbol t of the output is symbol L(t) of the input after interleaving, symbol L(t) of it symbol t after deinterleaving; where a line applies, the
+-- output is what it was. A block has N · w bytes
+unfoldable pub movedSymbols : {A : Type 0} → Way → Set → ℕ → List A → List A → List A
+movedSymbols way s w src dst = after (blockLines s (s .n * w) (length src) (length dst)) (symbolsBy way (L s) (s .n) w src dst) dst

@@ -1,16 +1,17 @@
--- No value decides anything: every entry changed by any function from any type to any other, the call answers the same and moves the changed
--- symbols the same way. Assumes nothing.
-use Prim.Native.Nat.{ℕ, zero, suc}
+-- No value decides anything: every entry changed by any function from any type to any other, the call moves the changed symbols the same way. (That
+-- it answers the same is `blind-answer` of `blocks`.)
+use Prim.Native.Nat.{ℕ, zero, suc, _*_}
 use mathlib.Core.List.{List, [], _∷_, map, map-append}
 use mathlib.Core.Path.{_≡_, refl, sym, ap, ap₂, _∙_}
 use lib.ListN.{length, take, drop, length-map}
+use Rattle.laws.specs.declared.Way.{Way}
 use Rattle.laws.specs.Outcome.{after, after-map}
-use Rattle.laws.specs.Move.{gather, scatter}
-use Rattle.laws.specs.Blind.{gather-blind, scatter-blind}
 use Rattle.sets.specs.declared.Set.{Set}
 use Rattle.walks.specs.Rules.{L}
+use Rattle.tables.specs.Answer.{blockLines}
+use Rattle.tables.specs.Moves.{movedBy, moved-blind}
 use Rattle.symbols.specs.Groups.{groups, joined}
-use Rattle.symbols.specs.Answer.{symbolLines, movedSymbols, interleavedSymbols, deinterleavedSymbols}
+use Rattle.symbols.specs.Answer.{symbolsBy, movedSymbols}
 
 module _ {A B : Type 0} (h : A → B) where
   map-take : (n : ℕ) (xs : List A) → take n (map h xs) ≡ map h (take n xs)
@@ -34,33 +35,14 @@ module _ {A B : Type 0} (h : A → B) where
   map-joined [] = refl
   map-joined (g ∷ gs) = rw (map-joined gs) (sym (map-append h g (joined gs)))
 
-  module _ (s : Set) (w : ℕ) (src dst : List A) where
-    pub blind-answer : movedSymbols s w (length (map h src)) (length (map h dst)) ≡ movedSymbols s w (length src) (length dst)
-    blind-answer = ap₂ (movedSymbols s w) (length-map src h) (length-map dst h)
-
-    -- a new list that is the change of another, in both calls
-    blind-after : {new : List B} (old : List A) → new ≡ map h old
-        → after (symbolLines s w (length (map h src)) (length (map h dst))) new (map h dst) ≡ map h (after (symbolLines s w (length src) (length dst)) old dst)
-    blind-after {new} old e =
-        ap₂ (λ (i o : ℕ). after (symbolLines s w i o) new (map h dst)) (length-map src h) (length-map dst h)
-        ∙ ap (λ (l : List B). after (symbolLines s w (length src) (length dst)) l (map h dst)) e
-        ∙ after-map (map h) (symbolLines s w (length src) (length dst)) old dst
-
-    pub blind-interleaved : interleavedSymbols s w (map h src) (map h dst) ≡ map h (interleavedSymbols s w src dst)
-    unfolding interleavedSymbols
-    blind-interleaved =
-        let gs = groups w (s .n) src in
-        blind-after (joined (gather (L s) (s .n) [] gs))
-        (ap (λ (x : List (List B)). joined (gather (L s) (s .n) [] x)) (map-groups w (s .n) src)
-        ∙ ap joined (gather-blind (map h) (L s) (s .n) [] gs)
-        ∙ map-joined (gather (L s) (s .n) [] gs))
-
-    pub blind-deinterleaved : deinterleavedSymbols s w (map h src) (map h dst) ≡ map h (deinterleavedSymbols s w src dst)
-    unfolding deinterleavedSymbols
-    blind-deinterleaved =
-        let gs = groups w (s .n) src in
-        let os = groups w (s .n) dst in
-        blind-after (joined (scatter (L s) (s .n) [] gs os))
-        (ap₂ (λ (x y : List (List B)). joined (scatter (L s) (s .n) [] x y)) (map-groups w (s .n) src) (map-groups w (s .n) dst)
-        ∙ ap joined (scatter-blind (map h) (L s) (s .n) [] gs os)
-        ∙ map-joined (scatter (L s) (s .n) [] gs os))
+  pub blind : (way : Way) (s : Set) (w : ℕ) (src dst : List A) → movedSymbols way s w (map h src) (map h dst) ≡ map h (movedSymbols way s w src dst)
+  unfolding movedSymbols
+  blind way s w src dst =
+      let gs = groups w (s .n) src in
+      let os = groups w (s .n) dst in
+      ap₂ (λ (i o : ℕ). after (blockLines s (s .n * w) i o) (symbolsBy way (L s) (s .n) w (map h src) (map h dst)) (map h dst)) (length-map src h) (length-map dst h)
+      ∙ ap (λ (l : List B). after (blockLines s (s .n * w) (length src) (length dst)) l (map h dst))
+      (ap₂ (λ (x y : List (List B)). joined (movedBy way (L s) (s .n) [] x y)) (map-groups w (s .n) src) (map-groups w (s .n) dst)
+      ∙ ap joined (moved-blind (map h) way (L s) (s .n) [] gs os)
+      ∙ map-joined (movedBy way (L s) (s .n) [] gs os))
+      ∙ after-map (map h) (blockLines s (s .n * w) (length src) (length dst)) (symbolsBy way (L s) (s .n) w src dst) dst

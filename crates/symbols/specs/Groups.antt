@@ -1,4 +1,4 @@
--- A list as groups of w entries, one after the other, and groups joined to a list again. Over any element. Assumes nothing.
+-- A list as groups of w entries, one after the other, and groups joined to a list again. Over any element.
 use Prim.Native.Nat.{ℕ, zero, suc, _+_, _*_, _≤_, _<_}
 use mathlib.Core.List.{List, [], _∷_, _++_, append-assoc}
 use mathlib.Core.Path.{_≡_, refl, sym, ap, ap₂, _∙_}

@@ -1,30 +1,23 @@
--- Symbols of one byte: the calls are those of `blocks` on bytes, for every input and output, refused ones included. Assumes nothing.
-use Prim.Native.Nat.{ℕ, zero, suc, _<_}
+-- Symbols of one byte: the calls are those of `blocks` on bytes, for every input and output, refused ones included.
+use Prim.Native.Nat.{ℕ, zero, suc, _*_, _<_}
 use mathlib.Core.List.{List, [], _∷_}
 use mathlib.Core.Path.{_≡_, refl, sym, ap, _∙_}
 use native.Mathlib.Nat.{mul-one}
 use native.Mathlib.Omega.{arith}
 use lib.ListN.{length, getD, take, drop}
 use lib.Seq.{drop-cons}
-use Rattle.laws.specs.Outcome.{Line, clear, first, after, after-same}
+use Rattle.laws.specs.declared.Way.{Way}
+use Rattle.laws.specs.Outcome.{done, after, after-same}
 use Rattle.laws.specs.Run.{run, run-same}
-use Rattle.laws.specs.Perm.{Perm}
-use Rattle.laws.specs.Move.{gather, scatter, scatter-is}
+use Rattle.laws.specs.Move.{gather}
 use Rattle.sets.specs.declared.Set.{Set}
-use Rattle.walks.specs.Rules.{L, M}
-use Rattle.blocks.specs.Answer.{blockLines, movedOf, interleaved, deinterleaved}
-use Rattle.blocks.specs.Passed.{lengths-are}
-use Rattle.blocks.specs.Laws.{perm}
+use Rattle.walks.specs.Rules.{ruleOf, ruleIn}
+use Rattle.tables.specs.Answer.{blockLines, movedOf}
+use Rattle.tables.specs.Moves.{perm-in, moved-is}
+use Rattle.tables.specs.Passed.{its-perm, its-lengths}
+use Rattle.blocks.specs.Answer.{moved}
 use Rattle.symbols.specs.Groups.{groups, joined, length-groups, getD-groups}
-use Rattle.symbols.specs.Answer.{symbolLines, movedSymbols, interleavedSymbols, deinterleavedSymbols}
-
--- the lines are the same, so the answers are
-lines-one : (s : Set) (i o : ℕ) → symbolLines s 1 i o ≡ blockLines s i o
-unfolding symbolLines blockLines
-lines-one s i o = rw (mul-one (s .n))
-
-pub answer-one : (s : Set) (i o : ℕ) → movedSymbols s 1 i o ≡ movedOf s i o
-answer-one s i o = rw (lines-one s i o)
+use Rattle.symbols.specs.Answer.{movedSymbols}
 
 module _ {A : Type 0} where
   joined-ones : (g : ℕ → A) (a n : ℕ) → joined (run (λ t. g t ∷ []) a n) ≡ run g a n
@@ -45,23 +38,19 @@ module _ {A : Type 0} where
       ap joined (run-same (λ t. getD (groups 1 n xs) (f t) []) (λ t. getD xs (f t) z ∷ []) 0 n (λ t h. group-one n xs z (f t) e (below t (omega arith))))
       ∙ joined-ones (λ t. getD xs (f t) z) 0 n
 
-module _ {A : Type 0} (s : Set) (z : A) (src dst : List A) where
-  where-clear : first (blockLines s (length src) (length dst)) ≡ clear → Perm (s .n) (L s) (M s)
-  where-clear c = perm s z src dst (rw c)
+-- so the call on symbols of one byte is the call on bytes
+pub answer-one : (s : Set) (i o : ℕ) → movedOf s (s .n * 1) i o ≡ movedOf s (s .n) i o
+answer-one s i o = rw (mul-one (s .n))
 
-  pub width-one : interleavedSymbols s 1 src dst ≡ interleaved s z src dst
-  unfolding interleavedSymbols interleaved
-  width-one =
-      ap (λ (ls : List Line). after ls (joined (gather (L s) (s .n) [] (groups 1 (s .n) src))) dst) (lines-one s (length src) (length dst))
-      ∙ after-same (blockLines s (length src) (length dst)) dst
-      (λ c. gather-one (L s) (s .n) z src (lengths-are s (length src) (length dst) c .0) (where-clear c .l-below))
-
-  pub width-one-back : deinterleavedSymbols s 1 src dst ≡ deinterleaved s z src dst
-  unfolding deinterleavedSymbols deinterleaved
-  width-one-back =
-      ap (λ (ls : List Line). after ls (joined (scatter (L s) (s .n) [] (groups 1 (s .n) src) (groups 1 (s .n) dst))) dst)
-      (lines-one s (length src) (length dst))
-      ∙ after-same (blockLines s (length src) (length dst)) dst
-      (λ c. ap joined (scatter-is (where-clear c) [] (groups 1 (s .n) src) (groups 1 (s .n) dst) (length-groups 1 (s .n) dst))
-      ∙ gather-one (M s) (s .n) z src (lengths-are s (length src) (length dst) c .0) (where-clear c .m-below)
-      ∙ sym (scatter-is (where-clear c) z src dst (lengths-are s (length src) (length dst) c .1)))
+pub width-one : {A : Type 0} (way : Way) (s : Set) (z : A) (src dst : List A) → movedSymbols way s 1 src dst ≡ moved way s z src dst
+unfolding movedSymbols moved
+width-one way s z src dst =
+    rw (mul-one (s .n))
+    (after-same (blockLines s (s .n) (length src) (length dst)) dst
+    (λ c.
+    let e : movedOf s (s .n) (length src) (length dst) ≡ done tt = rw c in
+    let p = its-perm s (s .n) (length src) (length dst) e in
+    let l = its-lengths s (s .n) (length src) (length dst) e in
+    ap joined (moved-is way (ruleOf s) p (groups 1 (s .n) src) (groups 1 (s .n) dst) [] (length-groups 1 (s .n) dst))
+    ∙ gather-one (ruleIn way s .l) (s .n) z src (l .0) (perm-in way (ruleOf s) p .l-below)
+    ∙ sym (moved-is way (ruleOf s) p src dst z (l .1))))

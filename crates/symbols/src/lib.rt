@@ -1,24 +1,20 @@
 // Whole blocks of symbols, each of `width` bytes, interleaved and deinterleaved by a table that the walk for L fills. No byte is looked at.
-use blocks::LARGE;
-use blocks::MIDDLE;
-use blocks::Moved;
-use blocks::SMALL;
+use laws::Way;
 use sets::Set;
-use walks::Walk;
-use walks::Walked;
-ghost use mathlib.Core.List.{[]};
+use tables::LARGE;
+use tables::MIDDLE;
+use tables::Moved;
+use tables::SMALL;
 ghost use mathlib.Core.Path.{_≡_};
-ghost use Prim.Native.Nat.{_+_, _≤_};
+ghost use Prim.Native.Nat.{_+_, _*_, _≤_};
 ghost use lib.ListN.{length, drop};
 ghost use lib.Seq.{paste};
-ghost use Rattle.laws.specs.Move.{gather, scatter};
+ghost use Rattle.laws.specs.declared.Way.the-variants.{Interleaver, Deinterleaver};
 ghost use Rattle.laws.specs.Loop.{by};
-ghost use Rattle.blocks.specs.Answer.{sayMoved};
-ghost use Rattle.blocks.specs.Passed.{Roomy};
-ghost use Rattle.symbols.specs.Groups.{groups, joined};
-ghost use Rattle.symbols.specs.Answer.{movedSymbols, interleavedSymbols, deinterleavedSymbols};
+ghost use Rattle.tables.specs.Answer.{movedOf, sayMoved};
+ghost use Rattle.tables.specs.Passed.{Roomy};
+ghost use Rattle.symbols.specs.Answer.{symbolsBy, movedSymbols};
 ghost use Rattle.symbols.specs.Moves.{Movable};
-ghost use Rattle.symbols.specs.Passed.{Planned};
 
 // Copies one symbol.
 fn copy_symbol(width: usize, src: &[u8], from: usize, dst: &mut [u8], to: usize)
@@ -36,7 +32,7 @@ fn copy_symbol(width: usize, src: &[u8], from: usize, dst: &mut [u8], to: usize)
 // Symbol t of dst is symbol table[t] of src: one product for each symbol, none for a byte.
 fn gather_by(table: &[u16], n: usize, width: usize, src: &[u8], dst: &mut [u8])
     requires { ⌜ Movable (now table) n width (now src) (now dst) ⌝ }
-    ensures { λ _. ⌜ now (dst .exit) ≡ joined (gather (by (now (table .entry))) n [] (groups width n (now (src .entry)))) ⌝ }
+    ensures { λ _. ⌜ now (dst .exit) ≡ symbolsBy Interleaver (by (now (table .entry))) n width (now (src .entry)) (now (dst .entry)) ⌝ }
 {
     let mut t = 0;
     let mut to = 0;
@@ -51,7 +47,7 @@ fn gather_by(table: &[u16], n: usize, width: usize, src: &[u8], dst: &mut [u8])
 // Symbol table[t] of dst is symbol t of src.
 fn scatter_by(table: &[u16], n: usize, width: usize, src: &[u8], dst: &mut [u8])
     requires { ⌜ Movable (now table) n width (now src) (now dst) ⌝ }
-    ensures { λ _. ⌜ now (dst .exit) ≡ joined (scatter (by (now (table .entry))) n [] (groups width n (now (src .entry))) (groups width n (now (dst .entry)))) ⌝ }
+    ensures { λ _. ⌜ now (dst .exit) ≡ symbolsBy Deinterleaver (by (now (table .entry))) n width (now (src .entry)) (now (dst .entry)) ⌝ }
 {
     let mut t = 0;
     let mut from = 0;
@@ -63,95 +59,62 @@ fn scatter_by(table: &[u16], n: usize, width: usize, src: &[u8], dst: &mut [u8])
     }
 }
 
-// What comes before any symbol moves: the walk fills the table and tells 1, 2, 3 and 8; then 5 and 6.
-fn plan_symbols(set: Set, width: u32, input: usize, output: usize, table: &mut [u16]) -> Moved
-    requires { ⌜ Roomy set (now table) ⌝ }
-    ensures { λ r. ⌜ Planned set width input output (now (table .exit)) r ⌝ }
+// How many bytes a block of symbols has.
+fn bytes_of(set: Set, width: u32) -> usize
+    ensures { λ r. ⌜ r ≡ set .n * width ⌝ }
 {
-    let size = set.n as usize * width as usize;
-    let w = walks::walk_l(Walk { set, cell: 0 }, table);
-    match w {
-        Walked::Refused(x) => Moved::Refused(x),
-        Walked::Done {
-            written: _,
-            next: _,
-            cells: _,
-        } => {
-            if input != size {
-                return Moved::Refused(sets::refusal_of(set, 5));
-            }
-            if output != size {
-                return Moved::Refused(sets::refusal_of(set, 6));
-            }
-            Moved::Done
-        }
-    }
+    set.n as usize * width as usize
 }
 
-// Interleaves by a lent table.
-fn interleave_by(set: Set, width: u32, table: &mut [u16], src: &[u8], dst: &mut [u8]) -> Moved
+// Moves a block by a lent table.
+fn move_by(way: Way, set: Set, width: u32, table: &mut [u16], src: &[u8], dst: &mut [u8]) -> Moved
     requires { ⌜ Roomy set (now table) ⌝ }
-    ensures answer { λ r. ⌜ sayMoved r ≡ movedSymbols set width (length (now (src .entry))) (length (now (dst .entry))) ⌝ }
-    ensures output { λ r. ⌜ now (dst .exit) ≡ interleavedSymbols set width (now (src .entry)) (now (dst .entry)) ⌝ }
+    ensures answer { λ r. ⌜ sayMoved r ≡ movedOf set (set .n * width) (length (now (src .entry))) (length (now (dst .entry))) ⌝ }
+    ensures output { λ r. ⌜ now (dst .exit) ≡ movedSymbols way set width (now (src .entry)) (now (dst .entry)) ⌝ }
 {
-    let m = plan_symbols(set, width, src.len(), dst.len(), table);
+    let m = tables::fill(set, bytes_of(set, width), src.len(), dst.len(), table);
     match m {
         Moved::Refused(x) => Moved::Refused(x),
         Moved::Done => {
-            gather_by(table, set.n as usize, width as usize, src, dst);
+            match way {
+                Way::Interleaver => gather_by(table, set.n as usize, width as usize, src, dst),
+                Way::Deinterleaver => scatter_by(table, set.n as usize, width as usize, src, dst),
+            }
             Moved::Done
         }
     }
 }
 
-// Deinterleaves by a lent table.
-fn deinterleave_by(set: Set, width: u32, table: &mut [u16], src: &[u8], dst: &mut [u8]) -> Moved
-    requires { ⌜ Roomy set (now table) ⌝ }
-    ensures answer { λ r. ⌜ sayMoved r ≡ movedSymbols set width (length (now (src .entry))) (length (now (dst .entry))) ⌝ }
-    ensures output { λ r. ⌜ now (dst .exit) ≡ deinterleavedSymbols set width (now (src .entry)) (now (dst .entry)) ⌝ }
+// Moves a block of N symbols of `width` bytes, either way. Refusals 1, 2, 3, 8, 5, 6.
+pub fn move_symbols(way: Way, set: Set, width: u32, src: &[u8], dst: &mut [u8]) -> Moved
+    ensures answer { λ r. ⌜ sayMoved r ≡ movedOf set (set .n * width) (length (now (src .entry))) (length (now (dst .entry))) ⌝ }
+    ensures output { λ r. ⌜ now (dst .exit) ≡ movedSymbols way set width (now (src .entry)) (now (dst .entry)) ⌝ }
 {
-    let m = plan_symbols(set, width, src.len(), dst.len(), table);
-    match m {
-        Moved::Refused(x) => Moved::Refused(x),
-        Moved::Done => {
-            scatter_by(table, set.n as usize, width as usize, src, dst);
-            Moved::Done
-        }
+    let n = tables::size_of(set);
+    if n <= SMALL {
+        let mut table = [0u16; SMALL];
+        return move_by(way, set, width, &mut table, src, dst);
     }
+    if n <= MIDDLE {
+        let mut table = [0u16; MIDDLE];
+        return move_by(way, set, width, &mut table, src, dst);
+    }
+    let mut table = [0u16; LARGE];
+    move_by(way, set, width, &mut table, src, dst)
 }
 
-// Interleaves N symbols of `width` bytes: symbol t of dst is symbol L(t) of src. Refusals 1, 2, 3, 8, 5, 6.
+// Interleaves N symbols of `width` bytes: symbol t of dst is symbol L(t) of src.
 pub fn interleave(set: Set, width: u32, src: &[u8], dst: &mut [u8]) -> Moved
-    ensures answer { λ r. ⌜ sayMoved r ≡ movedSymbols set width (length (now (src .entry))) (length (now (dst .entry))) ⌝ }
-    ensures output { λ r. ⌜ now (dst .exit) ≡ interleavedSymbols set width (now (src .entry)) (now (dst .entry)) ⌝ }
+    ensures answer { λ r. ⌜ sayMoved r ≡ movedOf set (set .n * width) (length (now (src .entry))) (length (now (dst .entry))) ⌝ }
+    ensures output { λ r. ⌜ now (dst .exit) ≡ movedSymbols Interleaver set width (now (src .entry)) (now (dst .entry)) ⌝ }
 {
-    let n = set.n as usize;
-    if n <= SMALL {
-        let mut table = [0u16; SMALL];
-        return interleave_by(set, width, &mut table, src, dst);
-    }
-    if n <= MIDDLE {
-        let mut table = [0u16; MIDDLE];
-        return interleave_by(set, width, &mut table, src, dst);
-    }
-    let mut table = [0u16; LARGE];
-    interleave_by(set, width, &mut table, src, dst)
+    move_symbols(Way::Interleaver, set, width, src, dst)
 }
 
-// Deinterleaves N symbols of `width` bytes: symbol L(t) of dst is symbol t of src. Refusals 1, 2, 3, 8, 5, 6.
+// Deinterleaves N symbols of `width` bytes: symbol L(t) of dst is symbol t of src.
 pub fn deinterleave(set: Set, width: u32, src: &[u8], dst: &mut [u8]) -> Moved
-    ensures answer { λ r. ⌜ sayMoved r ≡ movedSymbols set width (length (now (src .entry))) (length (now (dst .entry))) ⌝ }
-    ensures output { λ r. ⌜ now (dst .exit) ≡ deinterleavedSymbols set width (now (src .entry)) (now (dst .entry)) ⌝ }
+    ensures answer { λ r. ⌜ sayMoved r ≡ movedOf set (set .n * width) (length (now (src .entry))) (length (now (dst .entry))) ⌝ }
+    ensures output { λ r. ⌜ now (dst .exit) ≡ movedSymbols Deinterleaver set width (now (src .entry)) (now (dst .entry)) ⌝ }
 {
-    let n = set.n as usize;
-    if n <= SMALL {
-        let mut table = [0u16; SMALL];
-        return deinterleave_by(set, width, &mut table, src, dst);
-    }
-    if n <= MIDDLE {
-        let mut table = [0u16; MIDDLE];
-        return deinterleave_by(set, width, &mut table, src, dst);
-    }
-    let mut table = [0u16; LARGE];
-    deinterleave_by(set, width, &mut table, src, dst)
+    move_symbols(Way::Deinterleaver, set, width, src, dst)
 }
