@@ -10,7 +10,7 @@ use native.Mathlib.Decide.{decLt}
 use lib.ListN.{length, getD, replicate, getD-replicate, length-replicate}
 use lib.Seq.{getD-set-same, getD-set-other}
 use borrow.Author.Tests.{lt-ltb, le-ltb}
-use Rattle.delay.specs.declared.Way.{Way}
+use Rattle.laws.specs.declared.Way.{Way}
 use Rattle.delay.specs.Machine.{Slot, through, place, ringOf, offset, slotIn, slotAt, gives, keeps, runOutput, delayAt, late}
 use Rattle.delay.specs.Slots.{offset-end, ring-inj, at-slot, at-lt, slotAt-in, rows-lt, gap, getD-there, length-keeps}
 

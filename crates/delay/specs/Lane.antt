@@ -6,7 +6,7 @@ use mathlib.Core.List.{List}
 use mathlib.Core.Path.{_≡_}
 use lib.ListN.{length, getD, take}
 use lib.Dec.{leb}
-use Rattle.delay.specs.declared.Way.{Way}
+use Rattle.laws.specs.declared.Way.{Way}
 use Rattle.delay.specs.Machine.{ringOf, offset, slotAt, runOutput, runStore}
 
 -- place p of the store lies in ring x

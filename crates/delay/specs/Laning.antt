@@ -1,7 +1,7 @@
 -- One ring's bytes, part way, and the rings one after the other. Over the number of branches and the step. Assumes nothing.
 use Prim.Native.Nat.{ℕ, zero, suc, _+_, _≤_, _<_}
 use mathlib.Core.Path.{_≡_, refl, sym, ap, _∙_}
-use Rattle.delay.specs.declared.Way.{Way}
+use Rattle.laws.specs.declared.Way.{Way}
 use mathlib.Core.List.{List}
 use native.Mathlib.Nat.{not-suc-le-zero, add-mod-right, le-refl}
 use native.Mathlib.Omega.{arith}

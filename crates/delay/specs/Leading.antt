@@ -4,8 +4,8 @@ use mathlib.Core.Path.{_≡_, refl}
 use native.Mathlib.Nat.{mod-lt, div-add-mod', suc-mul}
 use native.Mathlib.Omega.{arith}
 use lib.Arith.{digits-mod}
-use Rattle.delay.specs.declared.Way.{Way}
-use Rattle.delay.specs.declared.Way.the-variants.{Interleaver, Deinterleaver}
+use Rattle.laws.specs.declared.Way.{Way}
+use Rattle.laws.specs.declared.Way.the-variants.{Interleaver, Deinterleaver}
 use Rattle.delay.specs.Machine.{ringOf}
 use Rattle.delay.specs.Slots.{ring-lt}
 use Rattle.delay.specs.Lane.{ringAt, Leads}

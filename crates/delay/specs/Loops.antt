@@ -7,7 +7,7 @@ use native.Mathlib.Nat.{mod-lt, mul-le-mul-left, mul-comm, mul-zero, mul-one, di
 use native.Mathlib.Numerals.{add-one}
 use native.Mathlib.Omega.{arith}
 use lib.ListN.{length, getD, set, length-set}
-use Rattle.delay.specs.declared.Way.{Way}
+use Rattle.laws.specs.declared.Way.{Way}
 use Rattle.delay.specs.Machine.{through, offset, slotAt, runOutput, runStore}
 use Rattle.delay.specs.Slots.{offset-suc, offset-le}
 use Rattle.delay.specs.Lane.{Inside, ringAt, Lane, Leads, wrapOf, Stretch, Left, Turned, Passed}

@@ -5,8 +5,8 @@ use mathlib.Core.Bool.{cond}
 use mathlib.Core.List.{List, [], _∷_}
 use lib.ListN.{getD, set}
 use lib.Dec.{ltb}
-use Rattle.delay.specs.declared.Way.{Way}
-use Rattle.delay.specs.declared.Way.the-variants.{Interleaver, Deinterleaver}
+use Rattle.laws.specs.declared.Way.{Way}
+use Rattle.laws.specs.declared.Way.the-variants.{Interleaver, Deinterleaver}
 
 -- branch j is a queue of step·x bytes: x is j in the interleaver, and branches - 1 - j in the deinterleaver
 abbrev pub ringOf : Way → ℕ → ℕ → ℕ

@@ -2,7 +2,7 @@
 -- the step. Assumes nothing.
 use Prim.Native.Nat.{ℕ, zero, suc, _+_, _-_, _/_, _%_, _≤_, _<_}
 use mathlib.Core.Path.{_≡_, refl, sym, ap, _∙_}
-use Rattle.delay.specs.declared.Way.{Way}
+use Rattle.laws.specs.declared.Way.{Way}
 use mathlib.Core.List.{List, [], _∷_, _++_}
 use mathlib.Core.Logic.{_≢_}
 use native.Mathlib.Nat.{mod-lt, add-zero, add-suc}

@@ -7,7 +7,7 @@ use native.Mathlib.Omega.{arith}
 use native.Mathlib.Decide.{decLt}
 use lib.ListN.{length, getD, replicate, take, length-append, length-replicate, getD-replicate, List·getD-append}
 use lib.Seq.{ext-getD, getD-take, getD-append-add, length-take-le}
-use Rattle.delay.specs.declared.Way.the-variants.{Interleaver, Deinterleaver}
+use Rattle.laws.specs.declared.Way.the-variants.{Interleaver, Deinterleaver}
 use Rattle.delay.specs.Machine.{offset, slotAt, runOutput, delayAt, late}
 use Rattle.delay.specs.Cuts.{length-output}
 use Rattle.delay.specs.Delay.{late-early, late-from, same-branch, fresh}

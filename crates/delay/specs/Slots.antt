@@ -1,8 +1,8 @@
 -- Facts on rings, slots and what a byte does to the store, over the number of branches and the step. Assumes nothing.
 use Prim.Native.Nat.{ℕ, zero, suc, _+_, _-_, _*_, _/_, _%_, _≤_, _<_}
 use mathlib.Core.Path.{_≡_, refl, ap, _∙_}
-use Rattle.delay.specs.declared.Way.{Way}
-use Rattle.delay.specs.declared.Way.the-variants.{Interleaver, Deinterleaver}
+use Rattle.laws.specs.declared.Way.{Way}
+use Rattle.laws.specs.declared.Way.the-variants.{Interleaver, Deinterleaver}
 use native.Mathlib.Nat.{le-refl, mul-zero, mul-suc, suc-mul, mul-right-comm, add-zero, add-suc, add-mul-div-right, mod-lt, mul-pos, div-add-mod', lt-of-mul-lt-mul-right, mul-le-mul-right, zero-lt-suc, not-suc-le-zero, le-of-suc-le-suc}
 use mathlib.Core.List.{List, [], _∷_}
 use native.Mathlib.Omega.{arith}

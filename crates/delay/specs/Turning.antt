@@ -10,7 +10,7 @@ use native.Mathlib.Decide.{decLt}
 use lib.Arith.{digits-mod}
 use lib.ListN.{length, getD, set, length-set}
 use borrow.Author.Tests.{le-leb, lt-leb}
-use Rattle.delay.specs.declared.Way.{Way}
+use Rattle.laws.specs.declared.Way.{Way}
 use Rattle.delay.specs.Machine.{place, offset, slotAt}
 use Rattle.delay.specs.Slots.{slot-at, getD-there}
 use Rattle.delay.specs.Lane.{ringAt, Lane, Leads, Ring, wrapOf, Turned}

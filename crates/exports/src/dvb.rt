@@ -4,7 +4,7 @@ use streams::Started;
 use streams::Stream;
 ghost use mathlib.Core.Path.{_≡_};
 ghost use Rattle.laws.specs.Outcome.{after};
-ghost use Rattle.delay.specs.declared.Way.the-variants.{Interleaver, Deinterleaver};
+ghost use Rattle.laws.specs.declared.Way.the-variants.{Interleaver, Deinterleaver};
 ghost use Rattle.streams.specs.declared.Stream.{Stream};
 ghost use Rattle.streams.specs.Dvb.{startStore, fedStore, fedOutput};
 ghost use Rattle.streams.specs.Answers.{sayStarted, sayFed, startLines, feedLines};

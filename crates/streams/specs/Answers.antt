@@ -3,15 +3,17 @@
 use Prim.Native.Nat.{ℕ}
 use mathlib.Core.Bool.{not}
 use mathlib.Core.List.{List, [], _∷_}
-use mathlib.Core.Path.{_≡_, refl, sym, ap, _∙_}
+use mathlib.Core.Path.{_≡_, refl}
 use lib.ListN.{length}
 use lib.Dec.{eqb, leb}
-use Rattle.laws.specs.Outcome.{Outcome, done, refused, Line, line}
+use Rattle.laws.specs.declared.Way.{Way}
+use Rattle.laws.specs.Outcome.{Outcome, done, refused, apart, Line, line, judged, after}
 use Rattle.streams.specs.declared.Stream.{Stream}
 use Rattle.streams.specs.declared.Started.{Started}
 use Rattle.streams.specs.declared.Started.the-variants as started
 use Rattle.streams.specs.declared.Fed.{Fed}
 use Rattle.streams.specs.declared.Fed.the-variants as fed
+use Rattle.streams.specs.Dvb.{startRecord, startStore, fedOutput, fedStore, fedRecord}
 
 module _ {A : Type 0} where
   -- 7: the store isn't 1,122 bytes
@@ -23,6 +25,23 @@ module _ {A : Type 0} where
   feedLines s store input out =
       line 7 (not (eqb (length store) 1122)) ∷ line 9 (leb 5654880 (s .phase)) ∷ line 6 (not (eqb (length out) (length input))) ∷ []
 
+  -- what a start has to say, and the store after it
+  abbrev pub startedOf : List A → Outcome ℕ Stream
+  startedOf store = judged (λ k. k) (startLines store) startRecord
+
+  abbrev pub startedStore : A → List A → List A
+  startedStore f store = after (startLines store) (startStore f) store
+
+  -- what a feed has to say, and the store and the output after it
+  abbrev pub fedOf : Stream → List A → List A → List A → Outcome ℕ Stream
+  fedOf s store input out = judged (λ k. k) (feedLines s store input out) (fedRecord s input)
+
+  abbrev pub storeOf : Way → Stream → List A → List A → List A → List A
+  storeOf way s store input out = after (feedLines s store input out) (fedStore way s store input) store
+
+  abbrev pub outputOf : Way → Stream → List A → List A → List A → List A
+  outputOf way s store input out = after (feedLines s store input out) (fedOutput way s store input) out
+
 -- the answers, by cases
 abbrev pub sayStarted : Started → Outcome ℕ Stream
 sayStarted (started.Ready s) = done s
@@ -32,10 +51,7 @@ abbrev pub sayFed : Fed → Outcome ℕ Stream
 sayFed (fed.Next s) = done s
 sayFed (fed.Refused k) = refused k
 
--- what can be read back from what is said tells any two answers apart
-apart : {X Y : Type 0} (say : X → Y) (read : Y → X) → ((a : X) → read (say a) ≡ a) → (a b : X) → say a ≡ say b → a ≡ b
-apart say read same a b e = sym (same a) ∙ ap read e ∙ same b
-
+-- two answers that say the same are the same
 pub started-apart : (a b : Started) → sayStarted a ≡ sayStarted b → a ≡ b
 started-apart = apart sayStarted read same
   where

@@ -1,5 +1,5 @@
 -- A machine never looks at a byte: every byte changed by any function, of any type to any other, in the store, the fill and the input alike,
--- it does the same and gives the changed bytes. Assumes nothing.
+-- it does the same and gives the changed bytes.
 use mathlib.Core.Path.{_≡_, refl, ap, _∙_}
 use mathlib.Core.List.{List, map}
 use lib.ListN.{length-map}
@@ -7,7 +7,7 @@ use Rattle.laws.specs.Outcome.{Line, judged, after, after-map}
 use Rattle.delay.specs.Cuts.{replicate-map, output-map, store-map, record-map}
 use Rattle.streams.specs.declared.Stream.{Stream}
 use Rattle.streams.specs.Dvb.{slotOf, nextOf, startRecord, startStore, fedOutput, fedStore, fedRecord}
-use Rattle.streams.specs.Answers.{startLines}
+use Rattle.streams.specs.Answers.{startLines, startedOf, startedStore}
 use Rattle.streams.specs.Calls.{Call, linesOf, says, storeAfter, outputAfter}
 
 module _ {A B : Type 0} (g : A → B) where
@@ -23,8 +23,8 @@ module _ {A B : Type 0} (g : A → B) where
 
   -- a start, the store and the fill changed
   pub start-blind : (store : List A) (f : A)
-      → (judged (λ k. k) (startLines (map g store)) startRecord ≡ judged (λ k. k) (startLines store) startRecord)
-      × (after (startLines (map g store)) (startStore (g f)) (map g store) ≡ map g (after (startLines store) (startStore f) store))
+      → (startedOf (map g store) ≡ startedOf store)
+      × (startedStore (g f) (map g store) ≡ map g (startedStore f store))
   unfolding startStore
   start-blind store f = (
     ap (λ (ls : List Line). judged (λ k. k) ls startRecord) (start-lines-map store),

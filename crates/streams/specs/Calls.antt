@@ -1,19 +1,18 @@
 -- Calls on one machine. A call is a way, a record, a lent store, an input and an output, and it says and leaves what the contracts of start,
--- interleave and deinterleave say. Over bytes of any type. Assumes nothing: these are definitions.
+-- interleave and deinterleave say. Over bytes of any type. These are definitions.
 use Prim.Native.Nat.{ℕ}
 use mathlib.Core.List.{List, [], _++_}
 use mathlib.Core.Path.{_≡_}
-use Rattle.laws.specs.Outcome.{Outcome, done, refused, Line, judged, after}
-use Rattle.delay.specs.declared.Way.{Way}
+use Rattle.laws.specs.Outcome.{Outcome, done, refused, Line}
+use Rattle.laws.specs.declared.Way.{Way}
 use Rattle.streams.specs.declared.Stream.{Stream}
-use Rattle.streams.specs.Dvb.{startRecord, startStore, fedOutput, fedStore, fedRecord}
-use Rattle.streams.specs.Answers.{startLines, feedLines}
+use Rattle.streams.specs.Answers.{feedLines, startedOf, startedStore, fedOf, storeOf, outputOf}
 
 -- a start that was not refused, in whatever store was lent: it gave the record s and left the store
 pub record Fresh {A : Type 0} (f : A) (s : Stream) (store : List A) : Type 0 where
   pub lent : List A
-  pub said : judged (λ k. k) (startLines lent) startRecord ≡ done s
-  pub filled : store ≡ after (startLines lent) (startStore f) lent
+  pub said : startedOf lent ≡ done s
+  pub filled : store ≡ startedStore f lent
 
 -- a call of a feed
 pub record Call (A : Type 0) : Type 0 where
@@ -29,13 +28,13 @@ module _ {A : Type 0} where
 
   -- what it says, and what it leaves in its store and in its output
   abbrev pub says : Call A → Outcome ℕ Stream
-  says c = judged (λ k. k) (linesOf c) (fedRecord (c .stream) (c .input))
+  says c = fedOf (c .stream) (c .store) (c .input) (c .output)
 
   abbrev pub storeAfter : Call A → List A
-  storeAfter c = after (linesOf c) (fedStore (c .way) (c .stream) (c .store) (c .input)) (c .store)
+  storeAfter c = storeOf (c .way) (c .stream) (c .store) (c .input) (c .output)
 
   abbrev pub outputAfter : Call A → List A
-  outputAfter c = after (linesOf c) (fedOutput (c .way) (c .stream) (c .store) (c .input)) (c .output)
+  outputAfter c = outputOf (c .way) (c .stream) (c .store) (c .input) (c .output)
 
 -- what a call that is refused was lent: the machine's store or a part of it, or something else
 pub data Lent {A : Type 0} (store : List A) : List A → Type 0 where
@@ -49,10 +48,13 @@ storeLeft {store = store} (other lent) new = store
 
 -- calls one after the other, from a record and a store: xs went into the accepted ones and ys came out of them, all in all, and at the end
 -- stand the record s′ and the store′. An accepted call has the record and the store that the one before it handed on. A refused one may come
--- at any place, of either way, with any record, any input and any output
+-- at any place: a feed of either way, with any record and any input, that is lent the machine's store or a part of it for its store, its
+-- output or both; and a start, with any fill, that is lent the machine's store or a part of it
 pub data Calls {A : Type 0} (way : Way) : Stream → List A → List A → List A → Stream → List A → Type 0 where
   none : {s : Stream} {store : List A} → Calls way s store [] [] s store
   fed : {s r s′ : Stream} {store xs ys store′ : List A} (c : Call A) → c .way ≡ way → c .stream ≡ s → c .store ≡ store → says c ≡ done r
       → Calls way r (storeAfter c) xs ys s′ store′ → Calls way s store (c .input ++ xs) (outputAfter c ++ ys) s′ store′
   stopped : {s s′ : Stream} {store xs ys store′ : List A} {k : ℕ} (c : Call A) → says c ≡ refused k → (l : Lent store (c .store))
-      → Calls way s (storeLeft l (storeAfter c)) xs ys s′ store′ → Calls way s store xs ys s′ store′
+      → (m : Lent (storeLeft l (storeAfter c)) (c .output)) → Calls way s (storeLeft m (outputAfter c)) xs ys s′ store′ → Calls way s store xs ys s′ store′
+  unstarted : {s s′ : Stream} {store xs ys store′ lent : List A} {k : ℕ} (f : A) → startedOf lent ≡ refused k → (l : Lent store lent)
+      → Calls way s (storeLeft l (startedStore f lent)) xs ys s′ store′ → Calls way s store xs ys s′ store′

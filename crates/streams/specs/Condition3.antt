@@ -1,5 +1,5 @@
 -- Condition 3: calls cut anywhere are one run; what comes out of a started machine, and of the two one behind the other. Over bytes of any
--- type, and with no bound on how many. Assumes nothing.
+-- type, and with no bound on how many.
 use Prim.Native.Nat.{ℕ, suc, _-_, _*_, _%_, _<_}
 use mathlib.Core.Path.{_≡_, refl, sym, ap, _∙_}
 use mathlib.Core.List.{List, [], _++_}
@@ -7,18 +7,18 @@ use native.Mathlib.Nat.{zero-add, mod-lt}
 use lib.ListN.{length, getD, replicate, take, length-replicate}
 use lib.Dec.{lit<}
 use borrow.Author.Tests.{eq-eqb, lt-leb}
-use Rattle.laws.specs.Outcome.{done, refused, judged, done-clear, refused-first, buffer-kept, buffer-new}
-use Rattle.delay.specs.declared.Way.{Way}
-use Rattle.delay.specs.declared.Way.the-variants.{Interleaver, Deinterleaver}
+use Rattle.laws.specs.Outcome.{done, refused, done-clear, answer-keeps, buffer-new}
+use Rattle.laws.specs.declared.Way.{Way}
+use Rattle.laws.specs.declared.Way.the-variants.{Interleaver, Deinterleaver}
 use Rattle.delay.specs.Machine.{offset, slotAt, runOutput, runStore, runRecord, delayAt, late}
 use Rattle.delay.specs.Cuts.{output-cut, store-cut, record-cut, length-output, length-store}
 use Rattle.delay.specs.Delay.{fresh}
 use Rattle.delay.specs.Round.{round, late-list}
 use Rattle.streams.specs.declared.Stream.{Stream}
 use Rattle.streams.specs.Dvb.{slotOf, nextOf, startRecord, startStore, fedOutput, fedStore, fedRecord}
-use Rattle.streams.specs.Answers.{startLines, feedLines}
+use Rattle.streams.specs.Answers.{startLines, startedOf, startedStore, fedOf}
 use Rattle.streams.specs.Phase.{phaseOf, output-phase, record-phase}
-use Rattle.streams.specs.Calls.{Fresh, Call, linesOf, says, storeAfter, outputAfter, Lent, part, other, storeLeft, Calls, none, fed, stopped}
+use Rattle.streams.specs.Calls.{Fresh, Call, linesOf, says, storeAfter, outputAfter, Lent, part, other, storeLeft, Calls, none, fed, stopped, unstarted}
 
 -- one run over xs: its output, its record, its store
 pub record OneRun {A : Type 0} (way : Way) (s : Stream) (store xs ys : List A) (s′ : Stream) (store′ : List A) : Type 0 where
@@ -38,12 +38,21 @@ module _ {A : Type 0} where
         stored = cc (buffer-new (linesOf c) (fedStore (c .way) (c .stream) (c .store) (c .input)) (c .store) (clear .0));
       }
 
-  -- a refused one leaves the machine's store as it was
-  store-kept : {store : List A} (c : Call A) {k : ℕ} → says c ≡ refused k → (l : Lent store (c .store)) → storeLeft l (storeAfter c) ≡ store
-  store-kept c e (other lent) = refl
-  store-kept c {k} e (part before lent behind w) =
-      let given = refused-first (λ n. n) (fedRecord (c .stream) (c .input)) (linesOf c) k e in
-      ap (λ (l : List A). before ++ (l ++ behind)) (buffer-kept (linesOf c) (given .number) _ lent (given .its-line)) ∙ sym w
+  -- what is lent and left as it was leaves the machine's store as it was
+  left-alone : {store lent : List A} (l : Lent store lent) {new : List A} → new ≡ lent → storeLeft l new ≡ store
+  left-alone (other lent) e = refl
+  left-alone (part before lent behind w) e = ap (λ (l : List A). before ++ (l ++ behind)) e ∙ sym w
+
+  -- so does a refused feed ..
+  feed-kept : {store : List A} (c : Call A) {k : ℕ} → says c ≡ refused k → (l : Lent store (c .store)) → (m : Lent (storeLeft l (storeAfter c)) (c .output))
+      → storeLeft m (outputAfter c) ≡ store
+  feed-kept c {k} e l m =
+      left-alone m (answer-keeps (λ n. n) (fedRecord (c .stream) (c .input)) (linesOf c) e _ (c .output))
+      ∙ left-alone l (answer-keeps (λ n. n) (fedRecord (c .stream) (c .input)) (linesOf c) e _ (c .store))
+
+  -- .. and a refused start
+  start-kept : {store lent : List A} (f : A) {k : ℕ} → startedOf lent ≡ refused k → (l : Lent store lent) → storeLeft l (startedStore f lent) ≡ store
+  start-kept {lent = lent} f e l = left-alone l (answer-keeps (λ n. n) startRecord (startLines lent) e (startStore f) lent)
 
   -- two runs, the second from where the first ended
   joined : {way : Way} {s r s′ : Stream} {store store₁ store′ xs ys us vs : List A}
@@ -60,7 +69,13 @@ module _ {A : Type 0} where
   unfolding fedOutput fedStore fedRecord runOutput runStore runRecord
   one-run none = record { output = refl; next = refl; stored = refl }
   one-run (fed c ew es et e cs) = joined (one-call c ew es et e) (one-run cs)
-  one-run (stopped c e l cs) = rw (store-kept c e l) at (one-run cs)
+  one-run (stopped c e l m cs) = rw (feed-kept c e l m) at (one-run cs)
+  one-run (unstarted f e l cs) = rw (start-kept f e l) at (one-run cs)
+
+  -- what comes out is as long as what went in
+  pub as-long : {way : Way} {s s′ : Stream} {store xs ys store′ : List A} → Calls way s store xs ys s′ store′ → length ys ≡ length xs
+  unfolding fedOutput
+  as-long {way} {s} {store = store} {xs = xs} c = ap length (one-run c .output) ∙ length-output (slotOf way) nextOf xs s store
 
   -- a start that is not refused gives its record, and a store full of f
   pub begun : {f : A} {s : Stream} {store : List A} → Fresh f s store → (s ≡ startRecord) × (store ≡ startStore f)
@@ -108,7 +123,7 @@ module _ {A : Type 0} where
 
   -- and the next call is refused only where its lengths differ
   pub goes-on : {way : Way} {f : A} {s s′ : Stream} {store xs ys store′ : List A} → Fresh f s store → Calls way s store xs ys s′ store′
-      → (input out : List A) → length out ≡ length input → judged (λ k. k) (feedLines s′ store′ input out) (fedRecord s′ input) ≡ done (fedRecord s′ input)
+      → (input out : List A) → length out ≡ length input → fedOf s′ store′ input out ≡ done (fedRecord s′ input)
   unfolding offset phaseOf fedStore
   goes-on {way} {f} {s} {s′} {store} {xs} {ys} {store′} h c input out e =
       let l : length store′ ≡ 1122 =

@@ -4,7 +4,7 @@ use Prim.Native.Nat.{ℕ, _+_, _%_}
 use mathlib.Core.List.{List}
 use mathlib.Core.Path.{_≡_}
 use lib.ListN.{replicate}
-use Rattle.delay.specs.declared.Way.{Way}
+use Rattle.laws.specs.declared.Way.{Way}
 use Rattle.delay.specs.Machine.{Slot, slotAt, runOutput, runStore, runRecord}
 use Rattle.streams.specs.declared.Stream.{Stream}
 

@@ -5,7 +5,7 @@ use mathlib.Core.List.{List}
 use native.Mathlib.Omega.{arith}
 use lib.ListN.{length}
 use lib.Dec.{lit<}
-use Rattle.delay.specs.declared.Way.{Way}
+use Rattle.laws.specs.declared.Way.{Way}
 use Rattle.delay.specs.Machine.{offset}
 use Rattle.delay.specs.Slots.{offset-end}
 use Rattle.delay.specs.Lane.{Leads, Ring, Turned, Passed}

@@ -13,7 +13,7 @@ use lib.ListN.{length}
 use borrow.Author.Tests.{eqb-true}
 use Rattle.laws.specs.Run.{run, run-mem}
 use Rattle.laws.specs.Members.{at-each}
-use Rattle.delay.specs.declared.Way.{Way}
+use Rattle.laws.specs.declared.Way.{Way}
 use Rattle.delay.specs.Machine.{place, ringOf, offset, slotIn, slotAt, runOutput, runStore}
 use Rattle.delay.specs.Slots.{ring-lt}
 use Rattle.delay.specs.Cuts.{output-rep, store-rep, record-rep, record-count}

@@ -1,4 +1,4 @@
--- The refusals of start and feed in the sentences of 01, in its order of checks: 7, 9, 6. Assumes nothing.
+-- The refusals of start and feed in the sentences of 01, in its order of checks: 7, 9, 6.
 use Prim.Native.Nat.{ℕ, _≤_}
 use mathlib.Core.Logic.{_≢_, _↔_}
 use mathlib.Core.Path.{_≡_}
@@ -7,7 +7,7 @@ use lib.ListN.{length}
 use Rattle.laws.specs.Outcome.{refused, judged, after}
 use Rattle.laws.specs.Sentences.{Sentence, sentence, FirstTrue, Told, none, told-differ, told-reach, said-exactly, kept-alone}
 use Rattle.streams.specs.Dvb.{startRecord, startStore, fedOutput, fedStore, fedRecord}
-use Rattle.streams.specs.Answers.{startLines}
+use Rattle.streams.specs.Answers.{startLines, startedOf, startedStore}
 use Rattle.streams.specs.Calls.{Call, linesOf, says, storeAfter, outputAfter}
 
 module _ {A : Type 0} where
@@ -28,7 +28,7 @@ module _ {A : Type 0} where
       told-differ 7 (length (c .store)) 1122 (told-reach 9 5654880 (c .stream .phase) (told-differ 6 (length (c .output)) (length (c .input)) none))
 
   -- a number is said exactly when its sentence holds and none before it does
-  pub refusal-order-start : (store : List A) (k : ℕ) → (judged (λ n. n) (startLines store) startRecord ≡ refused k) ↔ FirstTrue (startSentences store) k
+  pub refusal-order-start : (store : List A) (k : ℕ) → (startedOf store ≡ refused k) ↔ FirstTrue (startSentences store) k
   refusal-order-start store k = said-exactly (start-told store) tt (λ n. n) (λ i j e. e) startRecord k
 
   pub refusal-order-feed : (c : Call A) (k : ℕ) → (says c ≡ refused k) ↔ FirstTrue (feedSentences c) k
@@ -36,7 +36,7 @@ module _ {A : Type 0} where
 
   -- where a sentence holds the call says the number alone, and changes no byte
   pub refused-alone-start : (store : List A) (f : A) (k : ℕ) → FirstTrue (startSentences store) k
-      → (judged (λ n. n) (startLines store) startRecord ≡ refused k) × (after (startLines store) (startStore f) store ≡ store)
+      → (startedOf store ≡ refused k) × (startedStore f store ≡ store)
   refused-alone-start store f k h = (refusal-order-start store k .1 h, kept-alone (start-told store) tt (startStore f) store k h)
 
   pub refused-alone-feed : (c : Call A) (k : ℕ) → FirstTrue (feedSentences c) k → (says c ≡ refused k) × (storeAfter c ≡ c .store) × (outputAfter c ≡ c .output)

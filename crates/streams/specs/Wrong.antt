@@ -1,5 +1,4 @@
--- Builds that condition 3 rules out, and that no small edit of the code makes: each as a definition, with an input at which it differs,
--- computed. Assumes nothing.
+-- Wrong builds that condition 3 rules out, stated as definitions, each with an input at which it differs, computed.
 use Prim.Native.Nat.{ℕ, _+_, _-_, _%_}
 use mathlib.Core.Bool.{cond}
 use mathlib.Core.Path.{_≡_, refl}
@@ -7,8 +6,8 @@ use mathlib.Core.List.{List, [], _∷_, _++_}
 use lib.ListN.{length, getD}
 use lib.Dec.{eqb}
 use Rattle.laws.specs.Outcome.{refused, after}
-use Rattle.delay.specs.declared.Way.{Way}
-use Rattle.delay.specs.declared.Way.the-variants.{Interleaver}
+use Rattle.laws.specs.declared.Way.{Way}
+use Rattle.laws.specs.declared.Way.the-variants.{Interleaver}
 use Rattle.delay.specs.Machine.{offset, slotAt, runOutput, runStore, runRecord}
 use Rattle.streams.specs.declared.Stream.{Stream}
 use Rattle.streams.specs.Dvb.{slotOf, nextOf, startRecord, startStore, fedOutput, fedStore, fedRecord}

@@ -2,16 +2,15 @@
 // nothing, or it is done.
 mod rings;
 
-use delay::Way;
+use laws::Way;
 ghost use mathlib.Core.Path.{_≡_};
-ghost use Prim.Native.Nat.{ℕ, _+_, _*_, _/_, _%_, _<_};
+ghost use Prim.Native.Nat.{_+_, _*_, _/_, _%_, _<_};
 ghost use lib.ListN.{length};
-ghost use Rattle.laws.specs.Outcome.{judged, after};
-ghost use Rattle.delay.specs.declared.Way.the-variants.{Interleaver, Deinterleaver};
+ghost use Rattle.laws.specs.declared.Way.the-variants.{Interleaver, Deinterleaver};
 ghost use Rattle.delay.specs.Machine.{ringOf};
 ghost use Rattle.delay.specs.Lane.{Leads};
-ghost use Rattle.streams.specs.Dvb.{startRecord, startStore, fedRecord, fedStore, fedOutput, Runs};
-ghost use Rattle.streams.specs.Answers.{sayStarted, sayFed, startLines, feedLines};
+ghost use Rattle.streams.specs.Dvb.{startRecord, startStore, Runs};
+ghost use Rattle.streams.specs.Answers.{sayStarted, sayFed, startedOf, startedStore, fedOf, storeOf, outputOf};
 
 // The record: the phase, t modulo PHASES, where byte t of the stream is the next.
 pub struct Stream {
@@ -113,11 +112,11 @@ impl Stream {
         self.moved(input.len())
     }
 
-    // A feed, of either way.
-    fn feed(self, way: Way, store: &mut [u8], input: &[u8], out: &mut [u8]) -> Fed
-        ensures answer { λ r. ⌜ sayFed r ≡ judged (λ (k : ℕ). k) (feedLines self (now (store .entry)) (now (input .entry)) (now (out .entry))) (fedRecord self (now (input .entry))) ⌝ }
-        ensures store { λ r. ⌜ now (store .exit) ≡ after (feedLines self (now (store .entry)) (now (input .entry)) (now (out .entry))) (fedStore way self (now (store .entry)) (now (input .entry))) (now (store .entry)) ⌝ }
-        ensures output { λ r. ⌜ now (out .exit) ≡ after (feedLines self (now (store .entry)) (now (input .entry)) (now (out .entry))) (fedOutput way self (now (store .entry)) (now (input .entry))) (now (out .entry)) ⌝ }
+    // Feeds a machine, of either way. Refusals 7, 9, 6.
+    pub fn feed(self, way: Way, store: &mut [u8], input: &[u8], out: &mut [u8]) -> Fed
+        ensures answer { λ r. ⌜ sayFed r ≡ fedOf self (now (store .entry)) (now (input .entry)) (now (out .entry)) ⌝ }
+        ensures store { λ r. ⌜ now (store .exit) ≡ storeOf way self (now (store .entry)) (now (input .entry)) (now (out .entry)) ⌝ }
+        ensures output { λ r. ⌜ now (out .exit) ≡ outputOf way self (now (store .entry)) (now (input .entry)) (now (out .entry)) ⌝ }
     {
         if store.len() != Self::STORE {
             return Fed::Refused(7);
@@ -146,8 +145,8 @@ fn fill(store: &mut [u8], f: u8)
 
 // Starts a machine, of either way, in a lent store.
 pub fn start(store: &mut [u8], f: u8) -> Started
-    ensures answer { λ r. ⌜ sayStarted r ≡ judged (λ (k : ℕ). k) (startLines (now (store .entry))) startRecord ⌝ }
-    ensures store { λ r. ⌜ now (store .exit) ≡ after (startLines (now (store .entry))) (startStore f) (now (store .entry)) ⌝ }
+    ensures answer { λ r. ⌜ sayStarted r ≡ startedOf (now (store .entry)) ⌝ }
+    ensures store { λ r. ⌜ now (store .exit) ≡ startedStore f (now (store .entry)) ⌝ }
 {
     if store.len() != Stream::STORE {
         return Started::Refused(7);
@@ -158,18 +157,18 @@ pub fn start(store: &mut [u8], f: u8) -> Started
 
 // Feeds the interleaver.
 pub fn interleave(s: Stream, store: &mut [u8], input: &[u8], out: &mut [u8]) -> Fed
-    ensures answer { λ r. ⌜ sayFed r ≡ judged (λ (k : ℕ). k) (feedLines s (now (store .entry)) (now (input .entry)) (now (out .entry))) (fedRecord s (now (input .entry))) ⌝ }
-    ensures store { λ r. ⌜ now (store .exit) ≡ after (feedLines s (now (store .entry)) (now (input .entry)) (now (out .entry))) (fedStore Interleaver s (now (store .entry)) (now (input .entry))) (now (store .entry)) ⌝ }
-    ensures output { λ r. ⌜ now (out .exit) ≡ after (feedLines s (now (store .entry)) (now (input .entry)) (now (out .entry))) (fedOutput Interleaver s (now (store .entry)) (now (input .entry))) (now (out .entry)) ⌝ }
+    ensures answer { λ r. ⌜ sayFed r ≡ fedOf s (now (store .entry)) (now (input .entry)) (now (out .entry)) ⌝ }
+    ensures store { λ r. ⌜ now (store .exit) ≡ storeOf Interleaver s (now (store .entry)) (now (input .entry)) (now (out .entry)) ⌝ }
+    ensures output { λ r. ⌜ now (out .exit) ≡ outputOf Interleaver s (now (store .entry)) (now (input .entry)) (now (out .entry)) ⌝ }
 {
     s.feed(Way::Interleaver, store, input, out)
 }
 
 // Feeds the deinterleaver.
 pub fn deinterleave(s: Stream, store: &mut [u8], input: &[u8], out: &mut [u8]) -> Fed
-    ensures answer { λ r. ⌜ sayFed r ≡ judged (λ (k : ℕ). k) (feedLines s (now (store .entry)) (now (input .entry)) (now (out .entry))) (fedRecord s (now (input .entry))) ⌝ }
-    ensures store { λ r. ⌜ now (store .exit) ≡ after (feedLines s (now (store .entry)) (now (input .entry)) (now (out .entry))) (fedStore Deinterleaver s (now (store .entry)) (now (input .entry))) (now (store .entry)) ⌝ }
-    ensures output { λ r. ⌜ now (out .exit) ≡ after (feedLines s (now (store .entry)) (now (input .entry)) (now (out .entry))) (fedOutput Deinterleaver s (now (store .entry)) (now (input .entry))) (now (out .entry)) ⌝ }
+    ensures answer { λ r. ⌜ sayFed r ≡ fedOf s (now (store .entry)) (now (input .entry)) (now (out .entry)) ⌝ }
+    ensures store { λ r. ⌜ now (store .exit) ≡ storeOf Deinterleaver s (now (store .entry)) (now (input .entry)) (now (out .entry)) ⌝ }
+    ensures output { λ r. ⌜ now (out .exit) ≡ outputOf Deinterleaver s (now (store .entry)) (now (input .entry)) (now (out .entry)) ⌝ }
 {
     s.feed(Way::Deinterleaver, store, input, out)
 }

@@ -8,8 +8,8 @@ use native.Mathlib.Omega.{arith}
 use lib.ListN.{length, getD, replicate, take}
 use Rattle.laws.specs.Outcome.{done, refused, judged, after}
 use Rattle.laws.specs.Sentences.{FirstTrue}
-use Rattle.delay.specs.declared.Way.{Way}
-use Rattle.delay.specs.declared.Way.the-variants.{Interleaver, Deinterleaver}
+use Rattle.laws.specs.declared.Way.{Way}
+use Rattle.laws.specs.declared.Way.the-variants.{Interleaver, Deinterleaver}
 use Rattle.delay.specs.Machine.{slotAt, late, runOutput, runStore}
 use Rattle.delay.specs.Delay.{late-early, late-from}
 use Rattle.streams.specs.declared.Stream.{Stream}
