@@ -17,7 +17,8 @@ ghost use Rattle.blocks.specs.Answer.{moved};
 // dst[t] = src[table[t]].
 fn gather_by(table: &[u16], src: &[u8], dst: &mut [u8])
     requires { ⌜ Fitting (now table) (now src) (now dst) ⌝ }
-    ensures { λ _. ⌜ now (dst .exit) ≡ movedBy Interleaver (by (now (table .entry))) (length (now (src .entry))) 0 (now (src .entry)) (now (dst .entry)) ⌝ }
+    ensures { λ _. ⌜ now (dst .exit)
+        ≡ movedBy Interleaver (by (now (table .entry))) (length (now (src .entry))) 0 (now (src .entry)) (now (dst .entry)) ⌝ }
 {
     let mut i = 0;
     while i < dst.len() {
@@ -30,7 +31,8 @@ fn gather_by(table: &[u16], src: &[u8], dst: &mut [u8])
 // dst[table[t]] = src[t].
 fn scatter_by(table: &[u16], src: &[u8], dst: &mut [u8])
     requires { ⌜ Fitting (now table) (now src) (now dst) ⌝ }
-    ensures { λ _. ⌜ now (dst .exit) ≡ movedBy Deinterleaver (by (now (table .entry))) (length (now (src .entry))) 0 (now (src .entry)) (now (dst .entry)) ⌝ }
+    ensures { λ _. ⌜ now (dst .exit)
+        ≡ movedBy Deinterleaver (by (now (table .entry))) (length (now (src .entry))) 0 (now (src .entry)) (now (dst .entry)) ⌝ }
 {
     let mut i = 0;
     while i < src.len() {

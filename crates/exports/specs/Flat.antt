@@ -1,18 +1,16 @@
--- An answer, flattened for C: three numbers in a row are a parameter set, one number is the answer, and the rest goes through out-parameters.
--- Assumes nothing: these are definitions.
-use Prim.Native.Nat.{ℕ}
+-- An answer, flattened for C: numbers in a row are a parameter set, one number is the answer, and the rest goes through out-parameters. These are
+-- definitions.
+use Prim.Native.Nat.{ℕ, _*_}
 use mathlib.Core.List.{List}
-use lib.ListN.{getD}
-use Rattle.laws.specs.Outcome.{Outcome, done, refused, judged}
+use lib.ListN.{length, getD}
+use Rattle.laws.specs.declared.Way.{Way}
+use Rattle.laws.specs.Outcome.{Outcome, done, refused}
 use Rattle.sets.specs.declared.Set.{Set}
 use Rattle.sets.specs.declared.Refusal.{Refusal}
-use Rattle.sets.specs.Verdict.{refusal}
 use Rattle.walks.specs.declared.Walk.{Walk}
-use Rattle.walks.specs.Rules.{ruleL, ruleM, L, M}
-use Rattle.walks.specs.Answer.{Values, walkLines, backLines, oneLines, walkValues}
+use Rattle.walks.specs.Answer.{Values, walkedOf}
+use Rattle.tables.specs.Answer.{movedOf}
 use Rattle.streams.specs.declared.Stream.{Stream}
-use Rattle.streams.specs.Answers.{startLines, feedLines}
-use Rattle.streams.specs.Dvb.{startRecord, fedRecord}
 
 -- the parameter set that C lends: profile, bits, n
 unfoldable pub setOf : List ℕ → Set
@@ -25,6 +23,17 @@ walkOf l c = record { set = setOf l; cell = c }
 -- a stream's record: the number behind `phase`
 unfoldable pub streamOf : ℕ → Stream
 streamOf p = record { phase = p }
+
+-- what the calls that are served have to say, of what C lends: a walk into a slice ..
+abbrev pub lentWalk : Way → List ℕ → ℕ → List ℕ → Outcome Refusal Values
+lentWalk way set cell out = walkedOf way (walkOf set cell) (length out)
+
+-- .. a block of N, and one of N symbols of w bytes
+abbrev pub lentBlock : {A : Type 0} → List ℕ → List A → List A → Outcome Refusal (Unit {0})
+lentBlock set src dst = movedOf (setOf set) (setOf set .n) (length src) (length dst)
+
+abbrev pub lentSymbols : {A : Type 0} → List ℕ → ℕ → List A → List A → Outcome Refusal (Unit {0})
+lentSymbols set w src dst = movedOf (setOf set) (setOf set .n * w) (length src) (length dst)
 
 -- the number given back: 0 where the call is done, else that of the refusal
 abbrev pub numberBy : {R A : Type 0} → (R → ℕ) → Outcome R A → ℕ
@@ -43,22 +52,6 @@ abbrev pub outOf : {R A : Type 0} → Outcome R A → (A → ℕ) → ℕ → �
 outOf (done a) part old = part a
 outOf (refused x) part old = old
 
--- what the calls that are served have to say
-
-unfoldable pub foundL : Set → ℕ → Outcome Refusal ℕ
-foundL s t = judged (refusal s) (oneLines s t) (L s t)
-
-unfoldable pub foundM : Set → ℕ → Outcome Refusal ℕ
-foundM s k = judged (refusal s) (oneLines s k) (M s k)
-
-unfoldable pub walkedL : Walk → ℕ → Outcome Refusal Values
-walkedL w room = judged (refusal (w .set)) (walkLines w) (walkValues ruleL w room)
-
-unfoldable pub walkedM : Walk → ℕ → Outcome Refusal Values
-walkedM w room = judged (refusal (w .set)) (backLines w) (walkValues ruleM w room)
-
-unfoldable pub startedOf : {A : Type 0} → List A → Outcome ℕ Stream
-startedOf store = judged (λ (k : ℕ). k) (startLines store) startRecord
-
-unfoldable pub fedOf : {A : Type 0} → Stream → List A → List A → List A → Outcome ℕ Stream
-fedOf s store input out = judged (λ (k : ℕ). k) (feedLines s store input out) (fedRecord s input)
+-- the number behind `phase`: that of the record
+abbrev pub phaseOut : Outcome ℕ Stream → ℕ → ℕ
+phaseOut o old = outOf o (λ (s : Stream). s .phase) old

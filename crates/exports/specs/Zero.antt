@@ -1,23 +1,26 @@
 -- What the number given back tells: 0 is given exactly when the call that is served says done, and any other number is that of the first
--- line that applies. An out-parameter is like any lent buffer. Assumes nothing.
-use Prim.Native.Nat.{ℕ, suc}
+-- line that applies. An out-parameter is like any lent buffer.
+use Prim.Native.Nat.{ℕ, suc, _+_}
 use mathlib.Core.Bool.{Bool, true, false, cond}
 use mathlib.Core.List.{List, [], _∷_, _++_}
 use mathlib.Core.Logic.{_↔_, _≢_}
 use mathlib.Core.Path.{_≡_, refl, sym, _∙_}
 use native.Mathlib.Omega.{arith}
+use lib.ListN.{length}
+use Rattle.laws.specs.declared.Way.{Way}
+use lib.ListN.{length}
+use Rattle.laws.specs.declared.Way.{Way}
 use Rattle.laws.specs.Outcome.{done, refused, Line, Ruling, clear, stopped, first, settle, judged, after, First, first-stopped, stopped-first}
 use Rattle.sets.specs.declared.Set.{Set}
 use Rattle.sets.specs.Verdict.{setLines, verdictOf, refusal, refusal-number}
 use Rattle.walks.specs.declared.Walk.{Walk}
-use Rattle.walks.specs.Rules.{ruleL, ruleM, L, M}
-use Rattle.walks.specs.Answer.{planLines, walkLines, backLines, oneLines, walkValues}
-use Rattle.blocks.specs.Answer.{blockLines, movedOf}
-use Rattle.symbols.specs.Answer.{symbolLines, movedSymbols}
+use Rattle.walks.specs.Rules.{ruleIn}
+use Rattle.walks.specs.Answer.{planLines, walkLines, oneLines, walkList, walkCells, walkNext, Values, walkValues, walkedOf, foundOf}
+use Rattle.tables.specs.Answer.{blockLines, movedOf}
 use Rattle.streams.specs.declared.Stream.{Stream}
-use Rattle.streams.specs.Answers.{startLines, feedLines}
+use Rattle.streams.specs.Answers.{startLines, feedLines, startedOf, fedOf}
 use Rattle.streams.specs.Dvb.{startRecord, fedRecord}
-use Rattle.exports.specs.Flat.{numberBy, numberOf, streamNumberOf, outOf, foundL, foundM, walkedL, walkedM, startedOf, fedOf}
+use Rattle.exports.specs.Flat.{numberBy, numberOf, streamNumberOf, outOf, phaseOut}
 
 -- no line has the number 0
 abbrev pub Numbered : List Line → Type 0
@@ -73,64 +76,66 @@ set-numbered : (s : Set) → Numbered (setLines s)
 unfolding setLines
 set-numbered s = (positive 0, (positive 1, (positive 2, tt)))
 
-plan-numbered : (s : Set) → Numbered (planLines s)
-unfolding planLines
-plan-numbered s = numbered-join (setLines s) _ (set-numbered s) (positive 7, tt)
-
-one-numbered : (s : Set) (t : ℕ) → Numbered (oneLines s t)
+one-numbered : (s : Set) (x : ℕ) → Numbered (oneLines s x)
 unfolding oneLines
-one-numbered s t = numbered-join (planLines s) _ (plan-numbered s) (positive 3, tt)
+one-numbered s x = numbered-join (setLines s) _ (set-numbered s) (positive 7, (positive 3, tt))
 
-walk-numbered : (w : Walk) → Numbered (walkLines w)
+walk-numbered : (way : Way) (w : Walk) → Numbered (walkLines way w)
 unfolding walkLines
-walk-numbered w = numbered-join (planLines (w .set)) _ (plan-numbered (w .set)) (positive 8, tt)
+walk-numbered way w = (positive 0, numbered-join (setLines (w .set)) _ (set-numbered (w .set)) (positive 7, (positive 8, tt)))
 
-back-numbered : (w : Walk) → Numbered (backLines w)
-unfolding backLines
-back-numbered w = (positive 0, numbered-join (setLines (w .set)) _ (set-numbered (w .set)) (positive 8, tt))
+block-numbered : (s : Set) (total i o : ℕ) → Numbered (blockLines s total i o)
+unfolding blockLines planLines
+block-numbered s total i o =
+    numbered-join (planLines s) _ (numbered-join (setLines s) _ (set-numbered s) (positive 7, tt)) (positive 4, (positive 5, tt))
 
-block-numbered : (s : Set) (i o : ℕ) → Numbered (blockLines s i o)
-unfolding blockLines
-block-numbered s i o = numbered-join (planLines s) _ (plan-numbered s) (positive 4, (positive 5, tt))
-
-symbols-numbered : (s : Set) (w i o : ℕ) → Numbered (symbolLines s w i o)
-unfolding symbolLines
-symbols-numbered s w i o = numbered-join (planLines s) _ (plan-numbered s) (positive 4, (positive 5, tt))
-
--- 0 is given exactly when the call says done: the test, an address, a walk, a block ..
+-- 0 is given exactly when the call says done: the test, an address, a walk, a block of any length ..
 module _ (s : Set) where
   pub test-zero : (numberOf (verdictOf s) ≡ 0) ↔ (verdictOf s ≡ done tt)
   unfolding verdictOf
   test-zero = zero-is-done (λ x. x .number) (refusal s) (refusal-number s) (setLines s) tt (set-numbered s)
 
-  pub address-l-zero : (t : ℕ) → (numberOf (foundL s t) ≡ 0) ↔ (foundL s t ≡ done (L s t))
-  unfolding foundL
-  address-l-zero t = zero-is-done (λ x. x .number) (refusal s) (refusal-number s) (oneLines s t) (L s t) (one-numbered s t)
+  pub address-zero : (way : Way) (x : ℕ) → (numberOf (foundOf way s x) ≡ 0) ↔ (foundOf way s x ≡ done (ruleIn way s .l x))
+  unfolding foundOf
+  address-zero way x = zero-is-done (λ x. x .number) (refusal s) (refusal-number s) (oneLines s x) (ruleIn way s .l x) (one-numbered s x)
 
-  pub address-m-zero : (k : ℕ) → (numberOf (foundM s k) ≡ 0) ↔ (foundM s k ≡ done (M s k))
-  unfolding foundM
-  address-m-zero k = zero-is-done (λ x. x .number) (refusal s) (refusal-number s) (oneLines s k) (M s k) (one-numbered s k)
+  pub block-zero : (total i o : ℕ) → (numberOf (movedOf s total i o) ≡ 0) ↔ (movedOf s total i o ≡ done tt)
+  block-zero total i o = zero-is-done (λ x. x .number) (refusal s) (refusal-number s) (blockLines s total i o) tt (block-numbered s total i o)
 
-  pub block-zero : (i o : ℕ) → (numberOf (movedOf s i o) ≡ 0) ↔ (movedOf s i o ≡ done tt)
-  block-zero i o = zero-is-done (λ x. x .number) (refusal s) (refusal-number s) (blockLines s i o) tt (block-numbered s i o)
-
-  pub symbols-zero : (w i o : ℕ) → (numberOf (movedSymbols s w i o) ≡ 0) ↔ (movedSymbols s w i o ≡ done tt)
-  symbols-zero w i o = zero-is-done (λ x. x .number) (refusal s) (refusal-number s) (symbolLines s w i o) tt (symbols-numbered s w i o)
-
-module _ (w : Walk) (room : ℕ) where
-  pub walk-l-zero : (numberOf (walkedL w room) ≡ 0) ↔ (walkedL w room ≡ done (walkValues ruleL w room))
-  unfolding walkedL
-  walk-l-zero = zero-is-done (λ x. x .number) (refusal (w .set)) (refusal-number (w .set)) (walkLines w) (walkValues ruleL w room) (walk-numbered w)
-
-  pub walk-m-zero : (numberOf (walkedM w room) ≡ 0) ↔ (walkedM w room ≡ done (walkValues ruleM w room))
-  unfolding walkedM
-  walk-m-zero = zero-is-done (λ x. x .number) (refusal (w .set)) (refusal-number (w .set)) (backLines w) (walkValues ruleM w room) (back-numbered w)
+pub walk-zero : (way : Way) (w : Walk) (room : ℕ) → (numberOf (walkedOf way w room) ≡ 0) ↔ (walkedOf way w room ≡ done (walkValues way w room))
+unfolding walkedOf
+walk-zero way w room =
+    zero-is-done (λ x. x .number) (refusal (w .set)) (refusal-number (w .set)) (walkLines way w) (walkValues way w room) (walk-numbered way w)
 
 -- .. and a stream's start and feed
 pub start-zero : (store : List ℕ) → (streamNumberOf (startedOf store) ≡ 0) ↔ (startedOf store ≡ done startRecord)
-unfolding startedOf
 start-zero store = zero-is-done (λ k. k) (λ k. k) (λ k. refl) (startLines store) startRecord (positive 6, tt)
 
 pub feed-zero : (s : Stream) (store input out : List ℕ) → (streamNumberOf (fedOf s store input out) ≡ 0) ↔ (fedOf s store input out ≡ done (fedRecord s input))
-unfolding fedOf
-feed-zero s store input out = zero-is-done (λ k. k) (λ k. k) (λ k. refl) (feedLines s store input out) (fedRecord s input) (positive 6, (positive 8, (positive 5, tt)))
+feed-zero s store input out =
+    zero-is-done (λ k. k) (λ k. k) (λ k. refl) (feedLines s store input out) (fedRecord s input) (positive 6, (positive 8, (positive 5, tt)))
+
+-- an out-parameter of each call is what any lent buffer is: the address ..
+pub address-out : (way : Way) (s : Set) (x old : ℕ) → outOf (foundOf way s x) (λ a. a) old ≡ after (oneLines s x) (ruleIn way s .l x) old
+unfolding foundOf
+address-out way s x old = out-is-after (refusal s) (oneLines s x) (ruleIn way s .l x) (λ a. a) old
+
+-- .. the next cell, the addresses written and the cells examined ..
+module _ (way : Way) (w : Walk) (room old : ℕ) where
+  walk-out : (part : Values → ℕ) → outOf (walkedOf way w room) part old ≡ after (walkLines way w) (part (walkValues way w room)) old
+  unfolding walkedOf
+  walk-out part = out-is-after (refusal (w .set)) (walkLines way w) (walkValues way w room) part old
+
+  pub walk-outs : (outOf (walkedOf way w room) (λ v. v .next .cell) old ≡ after (walkLines way w) (w .cell + walkCells way w room) old)
+      × (outOf (walkedOf way w room) (λ v. v .written) old ≡ after (walkLines way w) (length (walkList way w room)) old)
+      × (outOf (walkedOf way w room) (λ v. v .cells) old ≡ after (walkLines way w) (walkCells way w room) old)
+  unfolding walkValues walkNext
+  walk-outs = (walk-out (λ v. v .next .cell), walk-out (λ v. v .written), walk-out (λ v. v .cells))
+
+-- .. and the phase
+pub start-out : (store : List ℕ) (old : ℕ) → phaseOut (startedOf store) old ≡ after (startLines store) (startRecord .phase) old
+start-out store old = out-is-after (λ k. k) (startLines store) startRecord (λ s. s .phase) old
+
+pub feed-out : (s : Stream) (store input out : List ℕ) (old : ℕ)
+    → phaseOut (fedOf s store input out) old ≡ after (feedLines s store input out) (fedRecord s input .phase) old
+feed-out s store input out old = out-is-after (λ k. k) (feedLines s store input out) (fedRecord s input) (λ s. s .phase) old

@@ -1,19 +1,24 @@
 // The DVB byte stream: a lent store, and the phase behind a pointer.
+use laws::Way;
 use streams::Fed;
 use streams::Started;
 use streams::Stream;
 ghost use mathlib.Core.Path.{_≡_};
-ghost use Rattle.laws.specs.Outcome.{after};
 ghost use Rattle.laws.specs.declared.Way.the-variants.{Interleaver, Deinterleaver};
-ghost use Rattle.streams.specs.declared.Stream.{Stream};
-ghost use Rattle.streams.specs.Dvb.{startStore, fedStore, fedOutput};
-ghost use Rattle.streams.specs.Answers.{sayStarted, sayFed, startLines, feedLines};
-ghost use Rattle.exports.specs.Flat.{streamOf, streamNumberOf, outOf, startedOf, fedOf};
+ghost use Rattle.streams.specs.Answers.{sayStarted, sayFed, startedOf, startedStore, fedOf, storeOf, outputOf};
+ghost use Rattle.exports.specs.Flat.{streamOf, streamNumberOf, phaseOut};
+
+// A stream's record, as it is lent.
+fn record_of(phase: u32) -> Stream
+    ensures { λ r. ⌜ r ≡ streamOf phase ⌝ }
+{
+    Stream { phase }
+}
 
 // Takes the answer of a start apart.
 fn started(s: Started, phase: &mut u32) -> u32
     ensures number { λ r. ⌜ r ≡ streamNumberOf (sayStarted s) ⌝ }
-    ensures phase { λ r. ⌜ now (phase .exit) ≡ outOf (sayStarted s) (λ (x : Stream). x .phase) (now (phase .entry)) ⌝ }
+    ensures phase { λ r. ⌜ now (phase .exit) ≡ phaseOut (sayStarted s) (now (phase .entry)) ⌝ }
 {
     match s {
         Started::Ready(first) => {
@@ -28,8 +33,8 @@ fn started(s: Started, phase: &mut u32) -> u32
 #[no_mangle]
 pub extern "C" fn interleaver_dvb_start(store: &mut [u8], fill: u8, phase: &mut u32) -> u32
     ensures number { λ r. ⌜ r ≡ streamNumberOf (startedOf (now (store .entry))) ⌝ }
-    ensures store { λ r. ⌜ now (store .exit) ≡ after (startLines (now (store .entry))) (startStore fill) (now (store .entry)) ⌝ }
-    ensures phase { λ r. ⌜ now (phase .exit) ≡ outOf (startedOf (now (store .entry))) (λ (s : Stream). s .phase) (now (phase .entry)) ⌝ }
+    ensures store { λ r. ⌜ now (store .exit) ≡ startedStore fill (now (store .entry)) ⌝ }
+    ensures phase { λ r. ⌜ now (phase .exit) ≡ phaseOut (startedOf (now (store .entry))) (now (phase .entry)) ⌝ }
 {
     started(streams::start(store, fill), phase)
 }
@@ -37,7 +42,7 @@ pub extern "C" fn interleaver_dvb_start(store: &mut [u8], fill: u8, phase: &mut 
 // Takes the answer of a feed apart.
 fn fed(f: Fed, phase: &mut u32) -> u32
     ensures number { λ r. ⌜ r ≡ streamNumberOf (sayFed f) ⌝ }
-    ensures phase { λ r. ⌜ now (phase .exit) ≡ outOf (sayFed f) (λ (s : Stream). s .phase) (now (phase .entry)) ⌝ }
+    ensures phase { λ r. ⌜ now (phase .exit) ≡ phaseOut (sayFed f) (now (phase .entry)) ⌝ }
 {
     match f {
         Fed::Next(next) => {
@@ -48,6 +53,20 @@ fn fed(f: Fed, phase: &mut u32) -> u32
     }
 }
 
+// Feeds the machine of a way.
+fn feed(way: Way, phase: &mut u32, store: &mut [u8], input: &[u8], out: &mut [u8]) -> u32
+    ensures number { λ r. ⌜ r
+        ≡ streamNumberOf (fedOf (streamOf (now (phase .entry))) (now (store .entry)) (now (input .entry)) (now (out .entry))) ⌝ }
+    ensures phase { λ r. ⌜ now (phase .exit)
+        ≡ phaseOut (fedOf (streamOf (now (phase .entry))) (now (store .entry)) (now (input .entry)) (now (out .entry))) (now (phase .entry)) ⌝ }
+    ensures store { λ r. ⌜ now (store .exit)
+        ≡ storeOf way (streamOf (now (phase .entry))) (now (store .entry)) (now (input .entry)) (now (out .entry)) ⌝ }
+    ensures output { λ r. ⌜ now (out .exit)
+        ≡ outputOf way (streamOf (now (phase .entry))) (now (store .entry)) (now (input .entry)) (now (out .entry)) ⌝ }
+{
+    fed(record_of(*phase).feed(way, store, input, out), phase)
+}
+
 // Feeds the interleaver. Refusals 7, 9, 6.
 #[no_mangle]
 pub extern "C" fn interleaver_dvb_interleave(
@@ -56,15 +75,16 @@ pub extern "C" fn interleaver_dvb_interleave(
     input: &[u8],
     out: &mut [u8],
 ) -> u32
-    ensures number { λ r. ⌜ r ≡ streamNumberOf (fedOf (streamOf (now (phase .entry))) (now (store .entry)) (now (input .entry)) (now (out .entry))) ⌝ }
-    ensures phase { λ r. ⌜ now (phase .exit) ≡ outOf (fedOf (streamOf (now (phase .entry))) (now (store .entry)) (now (input .entry)) (now (out .entry))) (λ (s : Stream). s .phase) (now (phase .entry)) ⌝ }
-    ensures store { λ r. ⌜ now (store .exit) ≡ after (feedLines (streamOf (now (phase .entry))) (now (store .entry)) (now (input .entry)) (now (out .entry))) (fedStore Interleaver (streamOf (now (phase .entry))) (now (store .entry)) (now (input .entry))) (now (store .entry)) ⌝ }
-    ensures output { λ r. ⌜ now (out .exit) ≡ after (feedLines (streamOf (now (phase .entry))) (now (store .entry)) (now (input .entry)) (now (out .entry))) (fedOutput Interleaver (streamOf (now (phase .entry))) (now (store .entry)) (now (input .entry))) (now (out .entry)) ⌝ }
+    ensures number { λ r. ⌜ r
+        ≡ streamNumberOf (fedOf (streamOf (now (phase .entry))) (now (store .entry)) (now (input .entry)) (now (out .entry))) ⌝ }
+    ensures phase { λ r. ⌜ now (phase .exit)
+        ≡ phaseOut (fedOf (streamOf (now (phase .entry))) (now (store .entry)) (now (input .entry)) (now (out .entry))) (now (phase .entry)) ⌝ }
+    ensures store { λ r. ⌜ now (store .exit)
+        ≡ storeOf Interleaver (streamOf (now (phase .entry))) (now (store .entry)) (now (input .entry)) (now (out .entry)) ⌝ }
+    ensures output { λ r. ⌜ now (out .exit)
+        ≡ outputOf Interleaver (streamOf (now (phase .entry))) (now (store .entry)) (now (input .entry)) (now (out .entry)) ⌝ }
 {
-    fed(
-        streams::interleave(Stream { phase: *phase }, store, input, out),
-        phase,
-    )
+    feed(Way::Interleaver, phase, store, input, out)
 }
 
 // Feeds the deinterleaver. Refusals 7, 9, 6.
@@ -75,13 +95,14 @@ pub extern "C" fn interleaver_dvb_deinterleave(
     input: &[u8],
     out: &mut [u8],
 ) -> u32
-    ensures number { λ r. ⌜ r ≡ streamNumberOf (fedOf (streamOf (now (phase .entry))) (now (store .entry)) (now (input .entry)) (now (out .entry))) ⌝ }
-    ensures phase { λ r. ⌜ now (phase .exit) ≡ outOf (fedOf (streamOf (now (phase .entry))) (now (store .entry)) (now (input .entry)) (now (out .entry))) (λ (s : Stream). s .phase) (now (phase .entry)) ⌝ }
-    ensures store { λ r. ⌜ now (store .exit) ≡ after (feedLines (streamOf (now (phase .entry))) (now (store .entry)) (now (input .entry)) (now (out .entry))) (fedStore Deinterleaver (streamOf (now (phase .entry))) (now (store .entry)) (now (input .entry))) (now (store .entry)) ⌝ }
-    ensures output { λ r. ⌜ now (out .exit) ≡ after (feedLines (streamOf (now (phase .entry))) (now (store .entry)) (now (input .entry)) (now (out .entry))) (fedOutput Deinterleaver (streamOf (now (phase .entry))) (now (store .entry)) (now (input .entry))) (now (out .entry)) ⌝ }
+    ensures number { λ r. ⌜ r
+        ≡ streamNumberOf (fedOf (streamOf (now (phase .entry))) (now (store .entry)) (now (input .entry)) (now (out .entry))) ⌝ }
+    ensures phase { λ r. ⌜ now (phase .exit)
+        ≡ phaseOut (fedOf (streamOf (now (phase .entry))) (now (store .entry)) (now (input .entry)) (now (out .entry))) (now (phase .entry)) ⌝ }
+    ensures store { λ r. ⌜ now (store .exit)
+        ≡ storeOf Deinterleaver (streamOf (now (phase .entry))) (now (store .entry)) (now (input .entry)) (now (out .entry)) ⌝ }
+    ensures output { λ r. ⌜ now (out .exit)
+        ≡ outputOf Deinterleaver (streamOf (now (phase .entry))) (now (store .entry)) (now (input .entry)) (now (out .entry)) ⌝ }
 {
-    fed(
-        streams::deinterleave(Stream { phase: *phase }, store, input, out),
-        phase,
-    )
+    feed(Way::Deinterleaver, phase, store, input, out)
 }

@@ -1,17 +1,17 @@
 // A parameter set tested, one address, a list of addresses.
+use super::SET;
 use super::set_of;
+use laws::Way;
 use sets::Verdict;
 use walks::Found;
 use walks::Walk;
 use walks::Walked;
 ghost use mathlib.Core.Path.{_≡_};
 ghost use Prim.Native.Nat.{ℕ};
-ghost use lib.ListN.{length};
-ghost use Rattle.laws.specs.Outcome.{after};
+ghost use Rattle.laws.specs.declared.Way.the-variants.{Interleaver, Deinterleaver};
 ghost use Rattle.sets.specs.Verdict.{verdictOf, sayVerdict};
-ghost use Rattle.walks.specs.Rules.{ruleL, ruleM};
-ghost use Rattle.walks.specs.Answer.{walkLines, backLines, walkSlice, sayWalked, sayFound, Values};
-ghost use Rattle.exports.specs.Flat.{setOf, walkOf, numberOf, outOf, foundL, foundM, walkedL, walkedM};
+ghost use Rattle.walks.specs.Answer.{sliceOf, foundOf, sayWalked, sayFound, Values};
+ghost use Rattle.exports.specs.Flat.{setOf, walkOf, lentWalk, numberOf, outOf};
 
 // The number of a verdict.
 fn tested(v: Verdict) -> u32
@@ -25,7 +25,7 @@ fn tested(v: Verdict) -> u32
 
 // The test of a set. Refusals 1, 2, 3.
 #[no_mangle]
-pub extern "C" fn interleaver_test(set: &[u32; 3]) -> u32
+pub extern "C" fn interleaver_test(set: &[u32; SET]) -> u32
     ensures { λ r. ⌜ r ≡ numberOf (verdictOf (setOf (now (set .entry)))) ⌝ }
 {
     tested(sets::test(set_of(set)))
@@ -45,26 +45,37 @@ fn found(f: Found, address: &mut u32) -> u32
     }
 }
 
+// One address of the set that is lent, either way.
+fn find(way: Way, set: &[u32; SET], x: u32, address: &mut u32) -> u32
+    ensures number { λ r. ⌜ r ≡ numberOf (foundOf way (setOf (now (set .entry))) x) ⌝ }
+    ensures address { λ r. ⌜ now (address .exit)
+        ≡ outOf (foundOf way (setOf (now (set .entry))) x) (λ (a : ℕ). a) (now (address .entry)) ⌝ }
+{
+    found(walks::address_by(way, set_of(set), x), address)
+}
+
 // L(t). Refusals 1, 2, 3, 8, 4.
 #[no_mangle]
-pub extern "C" fn interleaver_address_l(set: &[u32; 3], t: u32, address: &mut u32) -> u32
-    ensures number { λ r. ⌜ r ≡ numberOf (foundL (setOf (now (set .entry))) t) ⌝ }
-    ensures address { λ r. ⌜ now (address .exit) ≡ outOf (foundL (setOf (now (set .entry))) t) (λ (a : ℕ). a) (now (address .entry)) ⌝ }
+pub extern "C" fn interleaver_address_l(set: &[u32; SET], t: u32, address: &mut u32) -> u32
+    ensures number { λ r. ⌜ r ≡ numberOf (foundOf Interleaver (setOf (now (set .entry))) t) ⌝ }
+    ensures address { λ r. ⌜ now (address .exit)
+        ≡ outOf (foundOf Interleaver (setOf (now (set .entry))) t) (λ (a : ℕ). a) (now (address .entry)) ⌝ }
 {
-    found(walks::address_l(set_of(set), t), address)
+    find(Way::Interleaver, set, t, address)
 }
 
 // M(k). Refusals 1, 2, 3, 8, 4.
 #[no_mangle]
-pub extern "C" fn interleaver_address_m(set: &[u32; 3], k: u32, address: &mut u32) -> u32
-    ensures number { λ r. ⌜ r ≡ numberOf (foundM (setOf (now (set .entry))) k) ⌝ }
-    ensures address { λ r. ⌜ now (address .exit) ≡ outOf (foundM (setOf (now (set .entry))) k) (λ (a : ℕ). a) (now (address .entry)) ⌝ }
+pub extern "C" fn interleaver_address_m(set: &[u32; SET], k: u32, address: &mut u32) -> u32
+    ensures number { λ r. ⌜ r ≡ numberOf (foundOf Deinterleaver (setOf (now (set .entry))) k) ⌝ }
+    ensures address { λ r. ⌜ now (address .exit)
+        ≡ outOf (foundOf Deinterleaver (setOf (now (set .entry))) k) (λ (a : ℕ). a) (now (address .entry)) ⌝ }
 {
-    found(walks::address_m(set_of(set), k), address)
+    find(Way::Deinterleaver, set, k, address)
 }
 
 // A walk's record, as it is lent.
-fn walk_of(set: &[u32; 3], cell: u32) -> Walk
+fn walk_of(set: &[u32; SET], cell: u32) -> Walk
     ensures { λ r. ⌜ r ≡ walkOf (now (set .entry)) cell ⌝ }
 {
     let set = set_of(set);
@@ -93,48 +104,82 @@ fn walked(w: Walked, cell: &mut u32, written: &mut u32, cells: &mut u32) -> u32
     }
 }
 
-// The walk for L from `cell` on, which moves on. Refusals 1, 2, 3, 8, 9.
-#[no_mangle]
-pub extern "C" fn interleaver_walk_l(
-    set: &[u32; 3],
+// The walk of a way from `cell` on, which moves on.
+fn walk_on(
+    way: Way,
+    set: &[u32; SET],
     cell: &mut u32,
     out: &mut [u16],
     written: &mut u32,
     cells: &mut u32,
 ) -> u32
-    ensures number { λ r. ⌜ r ≡ numberOf (walkedL (walkOf (now (set .entry)) (now (cell .entry))) (length (now (out .entry)))) ⌝ }
-    ensures cell { λ r. ⌜ now (cell .exit) ≡ outOf (walkedL (walkOf (now (set .entry)) (now (cell .entry))) (length (now (out .entry)))) (λ (v : Values). v .next .cell) (now (cell .entry)) ⌝ }
-    ensures slice { λ r. ⌜ now (out .exit) ≡ after (walkLines (walkOf (now (set .entry)) (now (cell .entry)))) (walkSlice ruleL (walkOf (now (set .entry)) (now (cell .entry))) (now (out .entry))) (now (out .entry)) ⌝ }
-    ensures written { λ r. ⌜ now (written .exit) ≡ outOf (walkedL (walkOf (now (set .entry)) (now (cell .entry))) (length (now (out .entry)))) (λ (v : Values). v .written) (now (written .entry)) ⌝ }
-    ensures cells { λ r. ⌜ now (cells .exit) ≡ outOf (walkedL (walkOf (now (set .entry)) (now (cell .entry))) (length (now (out .entry)))) (λ (v : Values). v .cells) (now (cells .entry)) ⌝ }
+    ensures number { λ r. ⌜ r ≡ numberOf (lentWalk way (now (set .entry)) (now (cell .entry)) (now (out .entry))) ⌝ }
+    ensures cell { λ r. ⌜ now (cell .exit)
+        ≡ outOf (lentWalk way (now (set .entry)) (now (cell .entry)) (now (out .entry)))
+        (λ (v : Values). v .next .cell) (now (cell .entry)) ⌝ }
+    ensures slice { λ r. ⌜ now (out .exit)
+        ≡ sliceOf way (walkOf (now (set .entry)) (now (cell .entry))) (now (out .entry)) ⌝ }
+    ensures written { λ r. ⌜ now (written .exit)
+        ≡ outOf (lentWalk way (now (set .entry)) (now (cell .entry)) (now (out .entry)))
+        (λ (v : Values). v .written) (now (written .entry)) ⌝ }
+    ensures cells { λ r. ⌜ now (cells .exit)
+        ≡ outOf (lentWalk way (now (set .entry)) (now (cell .entry)) (now (out .entry)))
+        (λ (v : Values). v .cells) (now (cells .entry)) ⌝ }
 {
     walked(
-        walks::walk_l(walk_of(set, *cell), out),
+        walks::walk_by(way, walk_of(set, *cell), out),
         cell,
         written,
         cells,
     )
 }
 
-// The walk for M from `cell` on, which moves on. Refusals 1, also for profile 5, 2, 3, 9.
+// The walk for L. Refusals 1, 2, 3, 8, 9.
 #[no_mangle]
-pub extern "C" fn interleaver_walk_m(
-    set: &[u32; 3],
+pub extern "C" fn interleaver_walk_l(
+    set: &[u32; SET],
     cell: &mut u32,
     out: &mut [u16],
     written: &mut u32,
     cells: &mut u32,
 ) -> u32
-    ensures number { λ r. ⌜ r ≡ numberOf (walkedM (walkOf (now (set .entry)) (now (cell .entry))) (length (now (out .entry)))) ⌝ }
-    ensures cell { λ r. ⌜ now (cell .exit) ≡ outOf (walkedM (walkOf (now (set .entry)) (now (cell .entry))) (length (now (out .entry)))) (λ (v : Values). v .next .cell) (now (cell .entry)) ⌝ }
-    ensures slice { λ r. ⌜ now (out .exit) ≡ after (backLines (walkOf (now (set .entry)) (now (cell .entry)))) (walkSlice ruleM (walkOf (now (set .entry)) (now (cell .entry))) (now (out .entry))) (now (out .entry)) ⌝ }
-    ensures written { λ r. ⌜ now (written .exit) ≡ outOf (walkedM (walkOf (now (set .entry)) (now (cell .entry))) (length (now (out .entry)))) (λ (v : Values). v .written) (now (written .entry)) ⌝ }
-    ensures cells { λ r. ⌜ now (cells .exit) ≡ outOf (walkedM (walkOf (now (set .entry)) (now (cell .entry))) (length (now (out .entry)))) (λ (v : Values). v .cells) (now (cells .entry)) ⌝ }
+    ensures number { λ r. ⌜ r ≡ numberOf (lentWalk Interleaver (now (set .entry)) (now (cell .entry)) (now (out .entry))) ⌝ }
+    ensures cell { λ r. ⌜ now (cell .exit)
+        ≡ outOf (lentWalk Interleaver (now (set .entry)) (now (cell .entry)) (now (out .entry)))
+        (λ (v : Values). v .next .cell) (now (cell .entry)) ⌝ }
+    ensures slice { λ r. ⌜ now (out .exit)
+        ≡ sliceOf Interleaver (walkOf (now (set .entry)) (now (cell .entry))) (now (out .entry)) ⌝ }
+    ensures written { λ r. ⌜ now (written .exit)
+        ≡ outOf (lentWalk Interleaver (now (set .entry)) (now (cell .entry)) (now (out .entry)))
+        (λ (v : Values). v .written) (now (written .entry)) ⌝ }
+    ensures cells { λ r. ⌜ now (cells .exit)
+        ≡ outOf (lentWalk Interleaver (now (set .entry)) (now (cell .entry)) (now (out .entry)))
+        (λ (v : Values). v .cells) (now (cells .entry)) ⌝ }
 {
-    walked(
-        walks::walk_m(walk_of(set, *cell), out),
-        cell,
-        written,
-        cells,
-    )
+    walk_on(Way::Interleaver, set, cell, out, written, cells)
+}
+
+// The walk for M. Refusals 1, also for profile 5, 2, 3, 9.
+#[no_mangle]
+pub extern "C" fn interleaver_walk_m(
+    set: &[u32; SET],
+    cell: &mut u32,
+    out: &mut [u16],
+    written: &mut u32,
+    cells: &mut u32,
+) -> u32
+    ensures number { λ r. ⌜ r ≡ numberOf (lentWalk Deinterleaver (now (set .entry)) (now (cell .entry)) (now (out .entry))) ⌝ }
+    ensures cell { λ r. ⌜ now (cell .exit)
+        ≡ outOf (lentWalk Deinterleaver (now (set .entry)) (now (cell .entry)) (now (out .entry)))
+        (λ (v : Values). v .next .cell) (now (cell .entry)) ⌝ }
+    ensures slice { λ r. ⌜ now (out .exit)
+        ≡ sliceOf Deinterleaver (walkOf (now (set .entry)) (now (cell .entry))) (now (out .entry)) ⌝ }
+    ensures written { λ r. ⌜ now (written .exit)
+        ≡ outOf (lentWalk Deinterleaver (now (set .entry)) (now (cell .entry)) (now (out .entry)))
+        (λ (v : Values). v .written) (now (written .entry)) ⌝ }
+    ensures cells { λ r. ⌜ now (cells .exit)
+        ≡ outOf (lentWalk Deinterleaver (now (set .entry)) (now (cell .entry)) (now (out .entry)))
+        (λ (v : Values). v .cells) (now (cells .entry)) ⌝ }
+{
+    walk_on(Way::Deinterleaver, set, cell, out, written, cells)
 }

@@ -1,15 +1,18 @@
-// Whole blocks, of bytes, of f32 soft values, and of symbols of any width.
+// Whole blocks, of bytes, of f32 soft values, and of symbols of any width. Refusals 1, 2, 3, 8, 5, 6, in every call.
+use super::SET;
 use super::set_of;
-use blocks::Moved;
+use laws::Way;
+use tables::Moved;
 ghost use mathlib.Core.Path.{_≡_};
 ghost use lib.Ieee.{nan};
-ghost use lib.ListN.{length};
-ghost use Rattle.blocks.specs.Answer.{movedOf, sayMoved, interleaved, deinterleaved};
-ghost use Rattle.symbols.specs.Answer.{movedSymbols, interleavedSymbols, deinterleavedSymbols};
-ghost use Rattle.exports.specs.Flat.{setOf, numberOf};
+ghost use Rattle.laws.specs.declared.Way.the-variants.{Interleaver, Deinterleaver};
+ghost use Rattle.tables.specs.Answer.{sayMoved};
+ghost use Rattle.blocks.specs.Answer.{moved};
+ghost use Rattle.symbols.specs.Answer.{movedSymbols};
+ghost use Rattle.exports.specs.Flat.{setOf, lentBlock, lentSymbols, numberOf};
 
 // The number of a block's answer.
-fn moved(m: Moved) -> u32
+fn told(m: Moved) -> u32
     ensures { λ r. ⌜ r ≡ numberOf (sayMoved m) ⌝ }
 {
     match m {
@@ -18,66 +21,107 @@ fn moved(m: Moved) -> u32
     }
 }
 
-// Interleaves N bytes. Refusals 1, 2, 3, 8, 5, 6, as in every call for a block.
-#[no_mangle]
-pub extern "C" fn interleaver_interleave_bytes(set: &[u32; 3], src: &[u8], dst: &mut [u8]) -> u32
-    ensures number { λ r. ⌜ r ≡ numberOf (movedOf (setOf (now (set .entry))) (length (now (src .entry))) (length (now (dst .entry)))) ⌝ }
-    ensures output { λ r. ⌜ now (dst .exit) ≡ interleaved (setOf (now (set .entry))) 0 (now (src .entry)) (now (dst .entry)) ⌝ }
+// Moves N bytes, either way.
+fn move_bytes(way: Way, set: &[u32; SET], src: &[u8], dst: &mut [u8]) -> u32
+    ensures number { λ r. ⌜ r ≡ numberOf (lentBlock (now (set .entry)) (now (src .entry)) (now (dst .entry))) ⌝ }
+    ensures output { λ r. ⌜ now (dst .exit)
+        ≡ moved way (setOf (now (set .entry))) 0 (now (src .entry)) (now (dst .entry)) ⌝ }
 {
-    moved(blocks::bytes::interleave(set_of(set), src, dst))
+    told(blocks::bytes::move_block(way, set_of(set), src, dst))
+}
+
+// Interleaves N bytes.
+#[no_mangle]
+pub extern "C" fn interleaver_interleave_bytes(set: &[u32; SET], src: &[u8], dst: &mut [u8]) -> u32
+    ensures number { λ r. ⌜ r ≡ numberOf (lentBlock (now (set .entry)) (now (src .entry)) (now (dst .entry))) ⌝ }
+    ensures output { λ r. ⌜ now (dst .exit)
+        ≡ moved Interleaver (setOf (now (set .entry))) 0 (now (src .entry)) (now (dst .entry)) ⌝ }
+{
+    move_bytes(Way::Interleaver, set, src, dst)
 }
 
 // Deinterleaves N bytes.
 #[no_mangle]
-pub extern "C" fn interleaver_deinterleave_bytes(set: &[u32; 3], src: &[u8], dst: &mut [u8]) -> u32
-    ensures number { λ r. ⌜ r ≡ numberOf (movedOf (setOf (now (set .entry))) (length (now (src .entry))) (length (now (dst .entry)))) ⌝ }
-    ensures output { λ r. ⌜ now (dst .exit) ≡ deinterleaved (setOf (now (set .entry))) 0 (now (src .entry)) (now (dst .entry)) ⌝ }
+pub extern "C" fn interleaver_deinterleave_bytes(
+    set: &[u32; SET],
+    src: &[u8],
+    dst: &mut [u8],
+) -> u32
+    ensures number { λ r. ⌜ r ≡ numberOf (lentBlock (now (set .entry)) (now (src .entry)) (now (dst .entry))) ⌝ }
+    ensures output { λ r. ⌜ now (dst .exit)
+        ≡ moved Deinterleaver (setOf (now (set .entry))) 0 (now (src .entry)) (now (dst .entry)) ⌝ }
 {
-    moved(blocks::bytes::deinterleave(set_of(set), src, dst))
+    move_bytes(Way::Deinterleaver, set, src, dst)
+}
+
+// Moves N soft values, either way.
+fn move_soft(way: Way, set: &[u32; SET], src: &[f32], dst: &mut [f32]) -> u32
+    ensures number { λ r. ⌜ r ≡ numberOf (lentBlock (now (set .entry)) (now (src .entry)) (now (dst .entry))) ⌝ }
+    ensures output { λ r. ⌜ now (dst .exit)
+        ≡ moved way (setOf (now (set .entry))) nan (now (src .entry)) (now (dst .entry)) ⌝ }
+{
+    told(blocks::soft::move_block(way, set_of(set), src, dst))
 }
 
 // Interleaves N soft values.
 #[no_mangle]
-pub extern "C" fn interleaver_interleave_soft(set: &[u32; 3], src: &[f32], dst: &mut [f32]) -> u32
-    ensures number { λ r. ⌜ r ≡ numberOf (movedOf (setOf (now (set .entry))) (length (now (src .entry))) (length (now (dst .entry)))) ⌝ }
-    ensures output { λ r. ⌜ now (dst .exit) ≡ interleaved (setOf (now (set .entry))) nan (now (src .entry)) (now (dst .entry)) ⌝ }
+pub extern "C" fn interleaver_interleave_soft(set: &[u32; SET], src: &[f32], dst: &mut [f32]) -> u32
+    ensures number { λ r. ⌜ r ≡ numberOf (lentBlock (now (set .entry)) (now (src .entry)) (now (dst .entry))) ⌝ }
+    ensures output { λ r. ⌜ now (dst .exit)
+        ≡ moved Interleaver (setOf (now (set .entry))) nan (now (src .entry)) (now (dst .entry)) ⌝ }
 {
-    moved(blocks::soft::interleave(set_of(set), src, dst))
+    move_soft(Way::Interleaver, set, src, dst)
 }
 
 // Deinterleaves N soft values.
 #[no_mangle]
-pub extern "C" fn interleaver_deinterleave_soft(set: &[u32; 3], src: &[f32], dst: &mut [f32]) -> u32
-    ensures number { λ r. ⌜ r ≡ numberOf (movedOf (setOf (now (set .entry))) (length (now (src .entry))) (length (now (dst .entry)))) ⌝ }
-    ensures output { λ r. ⌜ now (dst .exit) ≡ deinterleaved (setOf (now (set .entry))) nan (now (src .entry)) (now (dst .entry)) ⌝ }
+pub extern "C" fn interleaver_deinterleave_soft(
+    set: &[u32; SET],
+    src: &[f32],
+    dst: &mut [f32],
+) -> u32
+    ensures number { λ r. ⌜ r ≡ numberOf (lentBlock (now (set .entry)) (now (src .entry)) (now (dst .entry))) ⌝ }
+    ensures output { λ r. ⌜ now (dst .exit)
+        ≡ moved Deinterleaver (setOf (now (set .entry))) nan (now (src .entry)) (now (dst .entry)) ⌝ }
 {
-    moved(blocks::soft::deinterleave(set_of(set), src, dst))
+    move_soft(Way::Deinterleaver, set, src, dst)
+}
+
+// Moves N symbols of `width` bytes, either way.
+fn move_symbols(way: Way, set: &[u32; SET], width: u32, src: &[u8], dst: &mut [u8]) -> u32
+    ensures number { λ r. ⌜ r ≡ numberOf (lentSymbols (now (set .entry)) width (now (src .entry)) (now (dst .entry))) ⌝ }
+    ensures output { λ r. ⌜ now (dst .exit)
+        ≡ movedSymbols way (setOf (now (set .entry))) width (now (src .entry)) (now (dst .entry)) ⌝ }
+{
+    told(symbols::move_symbols(way, set_of(set), width, src, dst))
 }
 
 // Interleaves N symbols of `width` bytes.
 #[no_mangle]
 pub extern "C" fn interleaver_interleave_symbols(
-    set: &[u32; 3],
+    set: &[u32; SET],
     width: u32,
     src: &[u8],
     dst: &mut [u8],
 ) -> u32
-    ensures number { λ r. ⌜ r ≡ numberOf (movedSymbols (setOf (now (set .entry))) width (length (now (src .entry))) (length (now (dst .entry)))) ⌝ }
-    ensures output { λ r. ⌜ now (dst .exit) ≡ interleavedSymbols (setOf (now (set .entry))) width (now (src .entry)) (now (dst .entry)) ⌝ }
+    ensures number { λ r. ⌜ r ≡ numberOf (lentSymbols (now (set .entry)) width (now (src .entry)) (now (dst .entry))) ⌝ }
+    ensures output { λ r. ⌜ now (dst .exit)
+        ≡ movedSymbols Interleaver (setOf (now (set .entry))) width (now (src .entry)) (now (dst .entry)) ⌝ }
 {
-    moved(symbols::interleave(set_of(set), width, src, dst))
+    move_symbols(Way::Interleaver, set, width, src, dst)
 }
 
 // Deinterleaves N symbols of `width` bytes.
 #[no_mangle]
 pub extern "C" fn interleaver_deinterleave_symbols(
-    set: &[u32; 3],
+    set: &[u32; SET],
     width: u32,
     src: &[u8],
     dst: &mut [u8],
 ) -> u32
-    ensures number { λ r. ⌜ r ≡ numberOf (movedSymbols (setOf (now (set .entry))) width (length (now (src .entry))) (length (now (dst .entry)))) ⌝ }
-    ensures output { λ r. ⌜ now (dst .exit) ≡ deinterleavedSymbols (setOf (now (set .entry))) width (now (src .entry)) (now (dst .entry)) ⌝ }
+    ensures number { λ r. ⌜ r ≡ numberOf (lentSymbols (now (set .entry)) width (now (src .entry)) (now (dst .entry))) ⌝ }
+    ensures output { λ r. ⌜ now (dst .exit)
+        ≡ movedSymbols Deinterleaver (setOf (now (set .entry))) width (now (src .entry)) (now (dst .entry)) ⌝ }
 {
-    moved(symbols::deinterleave(set_of(set), width, src, dst))
+    move_symbols(Way::Deinterleaver, set, width, src, dst)
 }

@@ -115,8 +115,10 @@ impl Stream {
     // Feeds a machine, of either way. Refusals 7, 9, 6.
     pub fn feed(self, way: Way, store: &mut [u8], input: &[u8], out: &mut [u8]) -> Fed
         ensures answer { λ r. ⌜ sayFed r ≡ fedOf self (now (store .entry)) (now (input .entry)) (now (out .entry)) ⌝ }
-        ensures store { λ r. ⌜ now (store .exit) ≡ storeOf way self (now (store .entry)) (now (input .entry)) (now (out .entry)) ⌝ }
-        ensures output { λ r. ⌜ now (out .exit) ≡ outputOf way self (now (store .entry)) (now (input .entry)) (now (out .entry)) ⌝ }
+        ensures store { λ r. ⌜ now (store .exit)
+            ≡ storeOf way self (now (store .entry)) (now (input .entry)) (now (out .entry)) ⌝ }
+        ensures output { λ r. ⌜ now (out .exit)
+            ≡ outputOf way self (now (store .entry)) (now (input .entry)) (now (out .entry)) ⌝ }
     {
         if store.len() != Self::STORE {
             return Fed::Refused(7);
@@ -158,8 +160,10 @@ pub fn start(store: &mut [u8], f: u8) -> Started
 // Feeds the interleaver.
 pub fn interleave(s: Stream, store: &mut [u8], input: &[u8], out: &mut [u8]) -> Fed
     ensures answer { λ r. ⌜ sayFed r ≡ fedOf s (now (store .entry)) (now (input .entry)) (now (out .entry)) ⌝ }
-    ensures store { λ r. ⌜ now (store .exit) ≡ storeOf Interleaver s (now (store .entry)) (now (input .entry)) (now (out .entry)) ⌝ }
-    ensures output { λ r. ⌜ now (out .exit) ≡ outputOf Interleaver s (now (store .entry)) (now (input .entry)) (now (out .entry)) ⌝ }
+    ensures store { λ r. ⌜ now (store .exit)
+        ≡ storeOf Interleaver s (now (store .entry)) (now (input .entry)) (now (out .entry)) ⌝ }
+    ensures output { λ r. ⌜ now (out .exit)
+        ≡ outputOf Interleaver s (now (store .entry)) (now (input .entry)) (now (out .entry)) ⌝ }
 {
     s.feed(Way::Interleaver, store, input, out)
 }
@@ -167,8 +171,10 @@ pub fn interleave(s: Stream, store: &mut [u8], input: &[u8], out: &mut [u8]) -> 
 // Feeds the deinterleaver.
 pub fn deinterleave(s: Stream, store: &mut [u8], input: &[u8], out: &mut [u8]) -> Fed
     ensures answer { λ r. ⌜ sayFed r ≡ fedOf s (now (store .entry)) (now (input .entry)) (now (out .entry)) ⌝ }
-    ensures store { λ r. ⌜ now (store .exit) ≡ storeOf Deinterleaver s (now (store .entry)) (now (input .entry)) (now (out .entry)) ⌝ }
-    ensures output { λ r. ⌜ now (out .exit) ≡ outputOf Deinterleaver s (now (store .entry)) (now (input .entry)) (now (out .entry)) ⌝ }
+    ensures store { λ r. ⌜ now (store .exit)
+        ≡ storeOf Deinterleaver s (now (store .entry)) (now (input .entry)) (now (out .entry)) ⌝ }
+    ensures output { λ r. ⌜ now (out .exit)
+        ≡ outputOf Deinterleaver s (now (store .entry)) (now (input .entry)) (now (out .entry)) ⌝ }
 {
     s.feed(Way::Deinterleaver, store, input, out)
 }

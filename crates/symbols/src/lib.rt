@@ -32,7 +32,8 @@ fn copy_symbol(width: usize, src: &[u8], from: usize, dst: &mut [u8], to: usize)
 // Symbol t of dst is symbol table[t] of src: one product for each symbol, none for a byte.
 fn gather_by(table: &[u16], n: usize, width: usize, src: &[u8], dst: &mut [u8])
     requires { ⌜ Movable (now table) n width (now src) (now dst) ⌝ }
-    ensures { λ _. ⌜ now (dst .exit) ≡ symbolsBy Interleaver (by (now (table .entry))) n width (now (src .entry)) (now (dst .entry)) ⌝ }
+    ensures { λ _. ⌜ now (dst .exit)
+        ≡ symbolsBy Interleaver (by (now (table .entry))) n width (now (src .entry)) (now (dst .entry)) ⌝ }
 {
     let mut t = 0;
     let mut to = 0;
@@ -47,7 +48,8 @@ fn gather_by(table: &[u16], n: usize, width: usize, src: &[u8], dst: &mut [u8])
 // Symbol table[t] of dst is symbol t of src.
 fn scatter_by(table: &[u16], n: usize, width: usize, src: &[u8], dst: &mut [u8])
     requires { ⌜ Movable (now table) n width (now src) (now dst) ⌝ }
-    ensures { λ _. ⌜ now (dst .exit) ≡ symbolsBy Deinterleaver (by (now (table .entry))) n width (now (src .entry)) (now (dst .entry)) ⌝ }
+    ensures { λ _. ⌜ now (dst .exit)
+        ≡ symbolsBy Deinterleaver (by (now (table .entry))) n width (now (src .entry)) (now (dst .entry)) ⌝ }
 {
     let mut t = 0;
     let mut from = 0;

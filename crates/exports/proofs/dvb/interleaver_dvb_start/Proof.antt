@@ -1,5 +1,4 @@
--- `exports::dvb::interleaver_dvb_start` hands the start's answer on.
-use Rattle.exports.specs.Flat.{startedOf}
+-- `exports::dvb::interleaver_dvb_start` hands on what is said of the store that is lent.
 use borrow.Author.Needs.{needs}
 use Rattle.exports.proofs.dvb.interleaver_dvb_start.Statement.{statement}
 use Rattle.exports.proofs.dvb.interleaver_dvb_start.Tie as tie
@@ -14,7 +13,6 @@ same-length : tie.Need-same-length
 same-length c = search needs
 
 returns : tie.Need-returns
-unfolding startedOf
 returns c =
     let said = c .before .before .before .before .start .ensures in
     let held = c .started .ensures in

@@ -1,8 +1,8 @@
--- `exports::moves::moved` gives the number of a block's answer.
+-- `exports::moves::told` gives the number of a block's answer.
 use mathlib.Core.Path.{refl}
 use borrow.Author.Needs.{needs}
-use Rattle.exports.proofs.moves.moved.Statement.{statement}
-use Rattle.exports.proofs.moves.moved.Tie as tie
+use Rattle.exports.proofs.moves.told.Statement.{statement}
+use Rattle.exports.proofs.moves.told.Tie as tie
 
 enum-told : tie.Need-enum-told
 enum-told c = search needs
@@ -16,5 +16,5 @@ returns c = rw (c .enum-told .given .1) refl
 returns-2 : tie.Need-returns-2
 returns-2 c = rw (c .before .m .given .1) refl
 
-pub moved-spec : {M : Type 1} → statement M
-moved-spec = tie.close (tie.spec enum-told enum-known-m returns returns-2)
+pub told-spec : {M : Type 1} → statement M
+told-spec = tie.close (tie.spec enum-told enum-known-m returns returns-2)

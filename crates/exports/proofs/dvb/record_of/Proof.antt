@@ -1,0 +1,12 @@
+-- `exports::dvb::record_of` is the record of the number that is lent.
+use mathlib.Core.Path.{refl}
+use Rattle.exports.specs.Flat.{streamOf}
+use Rattle.exports.proofs.dvb.record_of.Statement.{statement}
+use Rattle.exports.proofs.dvb.record_of.Tie as tie
+
+returns : tie.Need-returns
+unfolding streamOf
+returns c = refl
+
+pub record-of-spec : {M : Type 1} → statement M
+record-of-spec = tie.close (tie.spec returns)
