@@ -21,3 +21,8 @@ pub mod Walk
 pub mod Leaves
 pub mod Blind
 pub mod Sentences
+pub mod Residue
+pub mod Euclid
+pub mod Shared
+pub mod Stepped
+pub mod Seek

@@ -1,13 +1,24 @@
--- Euclid's steps end in the greatest common divisor: it divides both numbers, and whatever divides both divides it. Rests on Numbers.
--- Assumes nothing.
-use Prim.Native.Nat.{ℕ, zero, suc, _%_, _≤_, _<_}
+-- The greatest common divisor by Euclid's steps: it divides both numbers, whatever divides both divides it, and it is a multiple of the first
+-- less a multiple of the second. So where it is 1, the second number can be taken out of a product modulo the first. Rests on Residue.
+use Prim.Native.Nat.{ℕ, zero, suc, _+_, _-_, _*_, _/_, _%_, _≤_, _<_}
 use mathlib.Core.Bool.{Bool, true, false, cond}
 use mathlib.Core.Path.{_≡_, refl, ap, sym, _∙_}
-use native.Mathlib.Nat.{mod-lt, mod-self, zero-mod, mod-zero, mod-eq-of-lt, dvd-mod-iff, dvd-iff-mod-eq-zero}
+use native.Mathlib.Nat.{mod-lt, mod-self, zero-mod, dvd-mod-iff, mod-zero, mod-eq-of-lt, dvd-iff-mod-eq-zero, div-add-mod, mul-mod-right, mul-one, mul-zero}
 use native.Mathlib.Omega.{arith}
 use lib.Dec.{eqb}
 use borrow.Author.Tests.{eqb-true, eqb-false, ne-eqb}
-use Rattle.wcdma_plan.specs.Numbers.{gcdIn, gcd}
+use Rattle.laws.specs.Residue.{whole, same}
+
+-- Euclid's steps, at most n of them
+unfoldable pub gcdIn : ℕ → ℕ → ℕ → ℕ
+gcdIn zero a b = a
+gcdIn (suc n) a b =
+    let next = gcdIn n b (a % b) in
+    cond (eqb b 0) a next
+
+-- the greatest common divisor
+unfoldable pub gcd : ℕ → ℕ → ℕ
+gcd a b = gcdIn (suc b) a b
 
 -- more steps than b change nothing
 gcd-enough : (n m a b : ℕ) → b < n → b < m → gcdIn n a b ≡ gcdIn m a b
@@ -34,6 +45,7 @@ gcd-step a b h =
     rw (ne-eqb b 0 h)
     (let z : ¬ (b ≡ 0) = h in let y = mod-lt a {m = b} (omega arith) in gcd-enough b (suc (a % b)) b (a % b) y (omega arith))
 
+-- it divides both
 common : (n a b : ℕ) → b < n → (a % gcdIn n a b ≡ 0) × (b % gcdIn n a b ≡ 0)
 unfolding gcdIn
 common zero a b h = absurd (omega arith)
@@ -49,6 +61,58 @@ common (suc n) a b h = go (eqb b 0) refl (common n b (a % b))
         let g = gcdIn n b (a % b) in
         (dvd-iff-mod-eq-zero g .0 (dvd-mod-iff g {m = a} {n = b} (dvd-iff-mod-eq-zero g .1 (q .0)) .0 (dvd-iff-mod-eq-zero g .1 (q .1))), q .0)
 
+-- g is a times one number less b times another
+pub record Between (a b g : ℕ) : Type 0 where
+  pub more : ℕ
+  pub less : ℕ
+  pub is : a * more ≡ b * less + g
+
+-- the same with a and b exchanged, where neither is 0
+flip : (a b : ℕ) {g : ℕ} → Between (suc a) (suc b) g → Between (suc b) (suc a) g
+flip a b {g} p = record {
+  more = a * (p .more + p .less) + p .more;
+  less = b * (p .more + p .less) + p .less;
+  is = omega (arith, p .is);
+}
+
+-- one step of Euclid back
+back : (a b : ℕ) {g : ℕ} → 0 < a → 0 < b → Between b (a % b) g → Between a b g
+back zero b h l p = absurd (omega arith)
+back (suc a) zero h l p = absurd (omega arith)
+back (suc a) (suc b) h l p = flip b a (record {
+  more = p .more + suc a / suc b * p .less;
+  less = p .less;
+  is = omega (arith, p .is, ap (λ (x : ℕ). x * p .less) (div-add-mod (suc a) (suc b)));
+})
+
+between : (n a b : ℕ) → b < n → 0 < a → Between a b (gcdIn n a b)
+unfolding gcdIn
+between zero a b h l = absurd (omega arith)
+between (suc n) a b h l = go (eqb b 0) refl (between n b (a % b))
+  where
+    go : (t : Bool) → eqb b 0 ≡ t → (a % b < n → 0 < b → Between b (a % b) (gcdIn n b (a % b))) → Between a b (cond t a (gcdIn n b (a % b)))
+    go true e r = record { more = 1; less = 0; is = omega (arith, mul-one a, mul-zero b) }
+    go false e r =
+        let z : ¬ (b ≡ 0) = eqb-false b 0 e in
+        let y = mod-lt a {m = b} (omega arith) in
+        back a b l (omega arith) (r (omega arith) (omega arith))
+
+-- no number above 1 divides both a and m: a times something is one less than a multiple of m
+abbrev pub Coprime : ℕ → ℕ → Type 0
+Coprime m a = Between m a 1
+
+pub coprime : (m a : ℕ) → 0 < m → gcd m a ≡ 1 → Coprime m a
+unfolding gcd
+coprime m a h e = rw e at (between (suc a) m a (omega arith) h)
+
+-- then a can be taken away from a product modulo m
+pub cancel : {m a : ℕ} → Coprime m a → (d : ℕ) → a * d % m ≡ 0 → d % m ≡ 0
+cancel {m} {a} c d e =
+    sym (same m (a * d / m * c .less) d (let q : m * (c .more * d) ≡ d + m * (a * d / m * c .less) =
+    omega (arith, ap (λ (x : ℕ). x * d) (c .is), ap (λ (x : ℕ). x * c .less) (whole m (a * d) e)) in q))
+    ∙ mul-mod-right m (c .more * d)
+
+-- and whatever divides both divides it
 most : (n a b d : ℕ) → b < n → a % d ≡ 0 → b % d ≡ 0 → gcdIn n a b % d ≡ 0
 unfolding gcdIn
 most zero a b d h p q = absurd (omega arith)
