@@ -26,3 +26,4 @@ pub mod Euclid
 pub mod Shared
 pub mod Stepped
 pub mod Seek
+pub mod Told

@@ -1,6 +1,7 @@
+pub mod Size
 pub mod Profiles
+pub mod Beside
 pub mod Verdict
-pub mod Listed
 pub mod Admits
 pub mod Carried
 pub mod Refusals
