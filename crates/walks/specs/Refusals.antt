@@ -1,19 +1,20 @@
 -- The refusals of the calls on a set in the sentences of document 01, in its order: 1, 2, 3, 8, 4, 9. A number is said exactly when its
 -- sentence is the first that holds, and then the slice is what it was. Assumes nothing.
 use Prim.Native.Nat.{ℕ, _≤_, _<_}
-use mathlib.Core.Bool.{true, false, not, true≢false}
+use mathlib.Core.Bool.{true, false, true≢false}
 use mathlib.Core.List.{List, [], _∷_, _++_}
 use mathlib.Core.Logic.{_↔_}
 use mathlib.Core.Path.{_≡_, refl, sym, ap, _∙_}
-use Rattle.laws.specs.Outcome.{Line, refused, judged, after}
+use Rattle.laws.specs.Outcome.{Line, Clear, refused, judged, after}
 use Rattle.laws.specs.Sentences.{Sentence, sentence, FirstTrue, Told, none, more, told-reach, told-past, said-exactly, kept-alone}
+use Rattle.laws.specs.Told.{told-join}
 use Rattle.laws.specs.Walk.{Rule}
 use Rattle.sets.specs.declared.Set.{Set}
 use Rattle.sets.specs.declared.Family.{Family}
 use Rattle.sets.specs.declared.Family.the-variants.{Carrier, Turbo}
-use Rattle.sets.specs.Profiles.{familyOf, profileListed, bitsListed, sizeListed}
+use Rattle.sets.specs.Profiles.{familyOf}
 use Rattle.sets.specs.Carried.{five-turbo, turbo-five}
-use Rattle.sets.specs.Verdict.{setLines, refusal}
+use Rattle.sets.specs.Verdict.{refusal}
 use Rattle.sets.specs.Refusals.{setSentences, set-told, refusals-apart}
 use Rattle.wcdma_plan.specs.Search.{FewFound, fails-few, few-fails}
 use Rattle.walks.specs.declared.Walk.{Walk}
@@ -61,20 +62,19 @@ one-way-five s e = go (familyOf s) refl e
 
 -- the lines of the plan and their sentences, with others behind them
 pub plan-told : {C : Type 0} (s : Set) {ls : List Line} {ps : List Sentence}
-    → Told ((((C × (not (profileListed s) ≡ false)) × (not (bitsListed s) ≡ false)) × (not (sizeListed s) ≡ false)) × (ruleOf s .fails ≡ false)) ls ps
-    → Told C (planLines s ++ ls) (planSentences s ++ ps)
-unfolding planLines setLines
-plan-told s t = set-told s (more {p = SearchPasses s} (λ c e. gives-few s e) (λ c e h. few-gives s e h) t)
+    → Told (C × Clear (planLines s)) ls ps → Told C (planLines s ++ ls) (planSentences s ++ ps)
+unfolding planLines
+plan-told s t = told-join (told-join (set-told s) (more {p = SearchPasses s} (λ c e. gives-few s e) (λ c e h. few-gives s e h) none)) t
 
 walk-told : (w : Walk) → Told (Unit {0}) (walkLines w) (walkSentences w)
 unfolding walkLines
 walk-told w = plan-told (w .set) (told-past 9 (ruleL (w .set) .total) (w .cell) none)
 
 back-told : (w : Walk) → Told (Unit {0}) (backLines w) (backSentences w)
-unfolding backLines setLines
+unfolding backLines
 back-told w =
     more {p = w .set .profile ≡ 5} (λ c e. one-way-five (w .set) e) (λ c e h. true≢false (sym (ap oneWay (five-turbo (w .set) h)) ∙ e))
-    (set-told (w .set) (told-past 9 (ruleM (w .set) .total) (w .cell) none))
+    (told-join (set-told (w .set)) (told-past 9 (ruleM (w .set) .total) (w .cell) none))
 
 one-told : (s : Set) (x : ℕ) → Told (Unit {0}) (oneLines s x) (oneSentences s x)
 unfolding oneLines
