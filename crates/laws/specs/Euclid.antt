@@ -1,9 +1,11 @@
--- The greatest common divisor by Euclid's steps: it divides both numbers, whatever divides both divides it, and it is a multiple of the first
--- less a multiple of the second. So where it is 1, the second number can be taken out of a product modulo the first. Rests on Residue.
+-- The greatest common divisor by Euclid's steps: it divides both numbers, whatever divides both divides it, and it is a multiple of the
+-- first less a multiple of the second. So where it is 1, the second number can be taken out of a product modulo the first. Rests on
+-- Residue.
 use Prim.Native.Nat.{ℕ, zero, suc, _+_, _-_, _*_, _/_, _%_, _≤_, _<_}
 use mathlib.Core.Bool.{Bool, true, false, cond}
 use mathlib.Core.Path.{_≡_, refl, ap, sym, _∙_}
-use native.Mathlib.Nat.{mod-lt, mod-self, zero-mod, dvd-mod-iff, mod-zero, mod-eq-of-lt, dvd-iff-mod-eq-zero, div-add-mod, mul-mod-right, mul-one, mul-zero}
+use native.Mathlib.Nat.{mod-lt, mod-self, zero-mod, mod-zero, mod-eq-of-lt, div-add-mod, mul-mod-right, mul-one, mul-zero}
+use native.Mathlib.Nat.{dvd-mod-iff, dvd-iff-mod-eq-zero}
 use native.Mathlib.Omega.{arith}
 use lib.Dec.{eqb}
 use borrow.Author.Tests.{eqb-true, eqb-false, ne-eqb}
@@ -59,7 +61,8 @@ common (suc n) a b h = go (eqb b 0) refl (common n b (a % b))
         let y = mod-lt a {m = b} (omega arith) in
         let q = r (omega arith) in
         let g = gcdIn n b (a % b) in
-        (dvd-iff-mod-eq-zero g .0 (dvd-mod-iff g {m = a} {n = b} (dvd-iff-mod-eq-zero g .1 (q .0)) .0 (dvd-iff-mod-eq-zero g .1 (q .1))), q .0)
+        let left = dvd-mod-iff g {m = a} {n = b} (dvd-iff-mod-eq-zero g .1 (q .0)) .0 (dvd-iff-mod-eq-zero g .1 (q .1)) in
+        (dvd-iff-mod-eq-zero g .0 left, q .0)
 
 -- g is a times one number less b times another
 pub record Between (a b g : ℕ) : Type 0 where
@@ -118,12 +121,14 @@ unfolding gcdIn
 most zero a b d h p q = absurd (omega arith)
 most (suc n) a b d h p q = go (eqb b 0) refl (most n b (a % b) d)
   where
-    go : (t : Bool) → eqb b 0 ≡ t → (a % b < n → b % d ≡ 0 → a % b % d ≡ 0 → gcdIn n b (a % b) % d ≡ 0) → cond t a (gcdIn n b (a % b)) % d ≡ 0
+    go : (t : Bool) → eqb b 0 ≡ t → (a % b < n → b % d ≡ 0 → a % b % d ≡ 0 → gcdIn n b (a % b) % d ≡ 0)
+        → cond t a (gcdIn n b (a % b)) % d ≡ 0
     go true e r = p
     go false e r =
         let z : ¬ (b ≡ 0) = eqb-false b 0 e in
         let y = mod-lt a {m = b} (omega arith) in
-        r (omega arith) q (dvd-iff-mod-eq-zero d .0 (dvd-mod-iff d {m = a} {n = b} (dvd-iff-mod-eq-zero d .1 q) .1 (dvd-iff-mod-eq-zero d .1 p)))
+        let rest = dvd-mod-iff d {m = a} {n = b} (dvd-iff-mod-eq-zero d .1 q) .1 (dvd-iff-mod-eq-zero d .1 p) in
+        r (omega arith) q (dvd-iff-mod-eq-zero d .0 rest)
 
 -- g is the greatest common divisor of a and b
 pub record Greatest (a b g : ℕ) : Type 0 where

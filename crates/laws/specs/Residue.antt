@@ -3,7 +3,8 @@
 use mathlib.Core.Path.{_≡_, refl, sym, ap, _∙_}
 use mathlib.Core.Logic.{_⊎_, inl, inr}
 use Prim.Native.Nat.{ℕ, zero, suc, _+_, _*_, _/_, _%_, _^_, _<_}
-use native.Mathlib.Nat.{div-add-mod, add-mul-mod-self-left, mul-mod-right, mod-lt, mul-comm, mul-one, pow-zero, pow-suc, add-zero, add-suc, add-comm, zero-add, zero-mod}
+use native.Mathlib.Nat.{div-add-mod, add-mul-mod-self-left, mul-mod-right, mod-lt, zero-mod, pow-zero, pow-suc}
+use native.Mathlib.Nat.{add-zero, add-suc, add-comm, zero-add, mul-comm, mul-one}
 use native.Mathlib.Omega.{arith}
 use Rattle.laws.specs.Digits.{mod-cancel}
 use Rattle.laws.specs.Units.{mul-mod-in}

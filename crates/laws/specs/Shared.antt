@@ -2,7 +2,7 @@
 -- below n, is undone by the place of a value in its list. Rests on Position and Bare.
 use Prim.Native.Nat.{ℕ, zero, suc, _+_, _-_, _≤_, _<_}
 use mathlib.Core.Bool.{Bool, true, false, false≢true}
-use mathlib.Core.Path.{_≡_, refl, sym, ap, _∙_, subst}
+use mathlib.Core.Path.{_≡_, refl, sym, ap, _∙_}
 use mathlib.Core.Logic.{_⊎_, inl, inr, ⊎-elim}
 use native.Mathlib.Nat.{eq-or-lt-of-le, zero-add}
 use native.Mathlib.Omega.{arith}
@@ -56,21 +56,25 @@ module _ (f : ℕ → ℕ) where
       go true e r = inl (n, omega arith, eqb-true (f n) a e)
       go false e (inl r) = inl (r .0, omega (arith, r .1), r .2)
       go false e (inr r) =
-          inr (λ x h q. ⊎-elim (λ (w : x ≡ n). eqb-false (f n) a e (subst (λ (z : ℕ). f z ≡ a) w q)) (λ w. r x w q) (eq-or-lt-of-le {n = x} {m = n} (omega arith)))
+          inr (λ x h q. ⊎-elim (λ (w : x ≡ n). eqb-false (f n) a e (sym (ap f w) ∙ q)) (λ w. r x w q)
+          (eq-or-lt-of-le {n = x} {m = n} (omega arith)))
 
   pub apart-or-shared : (n : ℕ) → OneToOne n ⊎ Shared n
   apart-or-shared zero = inl (λ x y h l e. absurd (omega arith))
   apart-or-shared (suc n) = go (apart-or-shared n) (find (f n) n)
     where
+      last : (x : ℕ) → x < suc n → (x ≡ n) ⊎ (x < n)
+      last x h = eq-or-lt-of-le {n = x} {m = n} (omega arith)
+
       wider : OneToOne n → ((x : ℕ) → x < n → f x ≡ f n → ⊥) → OneToOne (suc n)
       wider o none x y h l e =
           ⊎-elim
-          (λ (p : x ≡ n). ⊎-elim (λ (q : y ≡ n). p ∙ sym q) (λ q. absurd (none y q (sym e ∙ ap f p))) (eq-or-lt-of-le {n = y} {m = n} (omega arith)))
-          (λ p. ⊎-elim (λ (q : y ≡ n). absurd (none x p (e ∙ ap f q))) (λ q. o x y p q e) (eq-or-lt-of-le {n = y} {m = n} (omega arith)))
-          (eq-or-lt-of-le {n = x} {m = n} (omega arith))
+          (λ (p : x ≡ n). ⊎-elim (λ (q : y ≡ n). p ∙ sym q) (λ q. absurd (none y q (sym e ∙ ap f p))) (last y l))
+          (λ p. ⊎-elim (λ (q : y ≡ n). absurd (none x p (e ∙ ap f q))) (λ q. o x y p q e) (last y l)) (last x h)
 
       go : OneToOne n ⊎ Shared n → ((x : ℕ) × (x < n) × (f x ≡ f n)) ⊎ ((x : ℕ) → x < n → f x ≡ f n → ⊥) → OneToOne (suc n) ⊎ Shared (suc n)
-      go (inr s) r = inr (record { first = s .first; second = s .second; apart = s .apart; below = let b = s .below in omega arith; same = s .same })
+      go (inr s) r =
+          inr (record { first = s .first; second = s .second; apart = s .apart; below = let b = s .below in omega arith; same = s .same })
       go (inl o) (inl r) = inr (record { first = r .0; second = n; apart = r .1; below = omega arith; same = r .2 })
       go (inl o) (inr r) = inl (wider o r)
 

@@ -11,7 +11,8 @@ use Rattle.laws.specs.Fill.{Filled, filled-none, filled-more}
 use Rattle.laws.specs.Lanes.{Ran}
 
 -- the loop over n cells from a cell on, at entry i of count
-pub record Stepped {S : Type 0} (Kept : Type 0) (f : ℕ → ℕ) (At : ℕ → S → Type 0) (n cell count : ℕ) (out₀ out : List ℕ) (at : S) (i : ℕ) : Type 0 where
+pub record Stepped {S : Type 0} (Kept : Type 0) (f : ℕ → ℕ) (At : ℕ → S → Type 0) (n cell count : ℕ) (out₀ out : List ℕ) (at : S) (i : ℕ)
+    : Type 0 where
   pub kept : Kept
   pub count-is : count ≡ min (length out₀) (n - cell)
   pub far : i ≤ count
@@ -35,7 +36,8 @@ module _ {S : Type 0} {Kept : Type 0} {f : ℕ → ℕ} {At : ℕ → S → Type
     pub room : count ≤ length out
     room = omega (arith, g .count-is, long)
 
-    pub stepped-next : i < count → {v : ℕ} {next : S} → v ≡ f (cell + i) → At (cell + i + 1) next → Stepped Kept f At n cell count out₀ (set out i v) next (i + 1)
+    pub stepped-next : i < count → {v : ℕ} {next : S} → v ≡ f (cell + i) → At (cell + i + 1) next
+        → Stepped Kept f At n cell count out₀ (set out i v) next (i + 1)
     stepped-next h {v} {next} e p = record {
       kept = g .kept;
       count-is = g .count-is;

@@ -38,13 +38,14 @@ told-under f none = none
 told-under f (more {p = p} applies fails t) = more {p = p} (λ d. applies (f d)) (λ d. fails (f d)) (told-under (λ d. (f (d .0), d .1)) t)
 
 -- a line that applies unless a test passes, as it does exactly when P holds
-pub told-unless : {C : Type 0} {t : Bool} {P : Type 0} {ls : List Line} {ps : List Sentence} (k : ℕ) → (C → t ≡ true → P) → (C → P → t ≡ true)
-    → Told (C × (t ≡ true)) ls ps → Told C (line k (not t) ∷ ls) (sentence k (P → ⊥) ∷ ps)
+pub told-unless : {C : Type 0} {t : Bool} {P : Type 0} {ls : List Line} {ps : List Sentence} (k : ℕ)
+    → (C → t ≡ true → P) → (C → P → t ≡ true) → Told (C × (t ≡ true)) ls ps → Told C (line k (not t) ∷ ls) (sentence k (P → ⊥) ∷ ps)
 told-unless {t = t} {P = P} k holds passes u =
     more {p = P → ⊥} (λ c e h. false≢true (sym (not-true t e) ∙ passes c h)) (λ c e n. n (holds c (not-false t e)))
     (told-under (λ d. (d .0, not-false t (d .1))) u)
 
 -- lines behind others: they are told where none of those applies
-pub told-join : {C : Type 0} {ls ms : List Line} {ps qs : List Sentence} → Told C ls ps → Told (C × Clear ls) ms qs → Told C (ls ++ ms) (ps ++ qs)
+pub told-join : {C : Type 0} {ls ms : List Line} {ps qs : List Sentence}
+    → Told C ls ps → Told (C × Clear ls) ms qs → Told C (ls ++ ms) (ps ++ qs)
 told-join none u = told-under (λ c. (c, tt)) u
 told-join (more {p = p} applies fails t) u = more {p = p} applies fails (told-join t (told-under (λ d. (d .0 .0, (d .0 .1, d .1))) u))

@@ -1,22 +1,21 @@
--- Exactly the sets of a listed size, with what they must have beside it, are accepted: no line of the test applies to a size if and only if it
--- stands in the table that specs/Profiles.antt counts out. The way back goes through what each profile agrees to there.
-use mathlib.Core.Path.{_≡_, refl, sym, subst}
-use mathlib.Core.Bool.{Bool, true, false, cond, not, _&&_}
+-- Exactly the sets of a listed size, with what they must have beside it, are accepted: no line of the test applies to a size if and only
+-- if it stands in the table that specs/Profiles.antt counts out. Each way goes by what specs/Listed.antt shows of every profile.
+use mathlib.Core.Path.{_≡_, sym, subst}
+use mathlib.Core.Bool.{true, _&&_}
 use mathlib.Core.Logic.{_↔_}
-use mathlib.Core.List.{List, [], _∷_, map, List·Memᴰ, Memᴰ·of-map}
-use Prim.Native.Nat.{ℕ, _≤_, _<_}
+use mathlib.Core.List.{List·Memᴰ, Memᴰ·of-map}
+use Prim.Native.Nat.{ℕ}
 use native.Mathlib.Omega.{arith}
-use lib.Dec.{leb, ltb, eqb}
-use borrow.Author.Tests.{leb-true, ltb-true, not-false}
+use lib.Dec.{leb}
+use borrow.Author.Tests.{leb-true, not-false}
 use Rattle.laws.specs.Outcome.{done, Clear, done-clear, clear-done}
 use Rattle.laws.specs.Told.{NoneTrue, told-clear, clear-join, clear-parts}
 use Rattle.laws.specs.Run.{run-mem}
-use Rattle.laws.specs.Members.{both, every, at-each, by-member, oneOf, one-of}
+use Rattle.laws.specs.Members.{both, at-each, by-member}
 use Rattle.sets.specs.declared.Set.{Set}
-use Rattle.sets.specs.declared.Family.{Family}
-use Rattle.sets.specs.declared.Family.the-variants.{Carrier, Turbo}
-use Rattle.sets.specs.Size.{Size, size, sizeOf, Row, Profile, sizesOf, in-rows, in-all, of-all}
-use Rattle.sets.specs.Profiles.{familyBy, bitsBy, profiles, carriers, turbos, listedSizes, profileListed, bitsListed, sizeListed, passes, Agrees, all-listed}
+use Rattle.sets.specs.Size.{Size, size, sizeOf, some, some-of, Row, Profile, sizesOf, in-rows, in-all, of-all}
+use Rattle.sets.specs.Profiles.{profiles, carriers, turbos, listedSizes, lastProfile, profileListed, bitsListed, sizeListed}
+use Rattle.sets.specs.Listed.{HasEach, Agrees, all-listed}
 use Rattle.sets.specs.Beside.{besideLines, besideSentences, beside-told}
 use Rattle.sets.specs.Verdict.{sizeLines, setLines, refusal, verdictOf}
 
@@ -30,10 +29,10 @@ pub record Listing (z : Size) : Type 0 where
 pub listing : (z : Size) → profileListed z ≡ true → Listing z
 unfolding profileListed profiles carriers turbos
 listing z e =
-    let q = both (leb 1 (z .profile)) (leb (z .profile) 5) e in
+    let q = both (leb 1 (z .profile)) (leb (z .profile) lastProfile) e in
     let lo = leb-true 1 (z .profile) (q .0) in
-    let hi = leb-true (z .profile) 5 (q .1) in
-    let m = Memᴰ·of-map (λ p. p .number) profiles (run-mem (λ j. j) 1 5 (z .profile) lo (omega arith)) in
+    let hi = leb-true (z .profile) lastProfile (q .1) in
+    let m = Memᴰ·of-map (λ p. p .number) profiles (run-mem (λ j. j) 1 lastProfile (z .profile) lo (omega arith)) in
     record { its = m .0; one = m .1; number-is = m .2; agrees = by-member Agrees profiles all-listed (m .1) }
 
 -- bits that pass have a row there
@@ -42,33 +41,38 @@ module _ (q : Profile) (a : Agrees q) (b n : ℕ) (e : bitsListed (size (q .numb
   some-in : (m : ℕ) × List·Memᴰ (size (q .number) b m) (sizesOf q)
   some-in =
       let r = Memᴰ·of-map (λ r. r .bits) (q .rows) (a .has-row b n e) in
-      let m = by-member (λ r. (n : ℕ) × List·Memᴰ n (r .sizes)) (q .rows) (a .has-size) (r .1) in
+      let m = some-of (r .0 .sizes) (at-each (λ r. some (r .sizes)) (q .rows) (a .has-size) (r .1)) in
       (m .0, subst (λ (b : ℕ). List·Memᴰ (size (q .number) b (m .0)) (sizesOf q)) (r .2) (in-rows (q .number) (q .rows) (r .1) (m .1)))
 
   -- and with N in it, where N passes
   stands-in : sizeListed (size (q .number) b n) ≡ true → List·Memᴰ (size (q .number) b n) (sizesOf q)
   stands-in =
       let r = Memᴰ·of-map (λ r. r .bits) (q .rows) (a .has-row b n e) in
-      let each = by-member (λ r. (n : ℕ) → sizeListed (size (q .number) (r .bits) n) ≡ true → List·Memᴰ n (r .sizes)) (q .rows) (a .has-each) (r .1) in
+      let each = by-member (HasEach (q .number)) (q .rows) (a .has-each) (r .1) in
       subst (λ (b : ℕ). sizeListed (size (q .number) b n) ≡ true → List·Memᴰ (size (q .number) b n) (sizesOf q)) (r .2)
       (λ h. in-rows (q .number) (q .rows) (r .1) (each n h))
 
 module _ (z : Size) (p : profileListed z ≡ true) (b : bitsListed z ≡ true) where
+  -- the bits pass for its profile
+  bits-there : bitsListed (size (listing z p .its .number) (z .bits) (z .n)) ≡ true
+  bits-there = subst (λ (p : ℕ). bitsListed (size p (z .bits) (z .n)) ≡ true) (sym (listing z p .number-is)) b
+
   -- for listed bits of a listed profile some size is listed
   pub some-listed : (m : ℕ) × List·Memᴰ (size (z .profile) (z .bits) m) listedSizes
   unfolding listedSizes
   some-listed =
       let l = listing z p in
-      subst (λ (p : ℕ). bitsListed (size p (z .bits) (z .n)) ≡ true → (m : ℕ) × List·Memᴰ (size p (z .bits) m) listedSizes) (l .number-is)
-      (λ e. let m = some-in (l .its) (l .agrees) (z .bits) (z .n) e in (m .0, in-all profiles (l .one) (m .1))) b
+      let m = some-in (l .its) (l .agrees) (z .bits) (z .n) bits-there in
+      (m .0, subst (λ (p : ℕ). List·Memᴰ (size p (z .bits) (m .0)) listedSizes) (l .number-is) (in-all profiles (l .one) (m .1)))
 
   -- and N is, where it passes
   pub passing-listed : sizeListed z ≡ true → List·Memᴰ z listedSizes
   unfolding listedSizes
-  passing-listed =
+  passing-listed h =
       let l = listing z p in
-      subst (λ (p : ℕ). bitsListed (size p (z .bits) (z .n)) ≡ true → sizeListed (size p (z .bits) (z .n)) ≡ true → List·Memᴰ (size p (z .bits) (z .n)) listedSizes) (l .number-is)
-      (λ e h. in-all profiles (l .one) (stands-in (l .its) (l .agrees) (z .bits) (z .n) e h)) b
+      let there = subst (λ (p : ℕ). sizeListed (size p (z .bits) (z .n)) ≡ true) (sym (l .number-is)) h in
+      subst (λ (p : ℕ). List·Memᴰ (size p (z .bits) (z .n)) listedSizes) (l .number-is)
+      (in-all profiles (l .one) (stands-in (l .its) (l .agrees) (z .bits) (z .n) bits-there there))
 
 -- a listed size passes the three tests
 pub record Passing (z : Size) : Type 0 where
@@ -99,28 +103,14 @@ accepted-clear s e = clear-parts (sizeLines (sizeOf s)) (besideLines s) (done-cl
 pub accepted-listed : (s : Set) → verdictOf s ≡ done tt → List·Memᴰ (sizeOf s) listedSizes
 accepted-listed s e = clear-listed (sizeOf s) (accepted-clear s e .0)
 
+pub listed-accepted : (s : Set) → List·Memᴰ (sizeOf s) listedSizes → Clear (besideLines s) → verdictOf s ≡ done tt
+unfolding verdictOf setLines
+listed-accepted s m c =
+    clear-done (refusal s) tt (setLines s) (clear-join (sizeLines (sizeOf s)) (besideLines s) (listed-clear (sizeOf s) m) c)
+
 -- a set is accepted exactly when its size is listed and no sentence of what it must have beside it holds
 pub admits : (s : Set) → (List·Memᴰ (sizeOf s) listedSizes × NoneTrue (besideSentences s)) ↔ (verdictOf s ≡ done tt)
-unfolding verdictOf setLines
 admits s = (
-  λ h. clear-done (refusal s) tt (setLines s) (clear-join (sizeLines (sizeOf s)) (besideLines s) (listed-clear (sizeOf s) (h .0)) (told-clear (beside-told s) (h .0) .1 (h .1))),
-  λ e. (accepted-listed s e, told-clear (beside-told s) (accepted-listed s e) .0 (accepted-clear s e .1)),
+  λ h. listed-accepted s (h .0) (told-clear (beside-told s) (h .0) .1 (h .1)),
+  λ e. let m = accepted-listed s e in (m, told-clear (beside-told s) m .0 (accepted-clear s e .1)),
 )
-
--- the bits that are listed are small
-pub bits-small : (z : Size) → bitsListed z ≡ true → (0 < z .bits) × (z .bits < 7)
-unfolding bitsListed
-bits-small z e =
-    let q = both (ltb 0 (z .bits)) (ltb (z .bits) 7) (go (eqb (z .profile) 2) (familyBy (z .profile)) e) in
-    (ltb-true 0 (z .bits) (q .0), ltb-true (z .bits) 7 (q .1))
-  where
-    small : ℕ → Bool
-    small b = ltb 0 b && ltb b 7
-
-    listed : (bs : List ℕ) → every small bs ≡ true → oneOf (z .bits) bs ≡ true → small (z .bits) ≡ true
-    listed bs a e = at-each small bs a (one-of (z .bits) bs e)
-
-    go : (t : Bool) (f : Family) → oneOf (z .bits) (cond t (2 ∷ 4 ∷ 6 ∷ []) (bitsBy f)) ≡ true → small (z .bits) ≡ true
-    go true f e = listed (2 ∷ 4 ∷ 6 ∷ []) refl e
-    go false Carrier e = listed (bitsBy Carrier) refl e
-    go false Turbo e = listed (bitsBy Turbo) refl e

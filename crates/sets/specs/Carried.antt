@@ -1,5 +1,5 @@
--- What an accepted set is. Of a carrier profile: a block that the carrier laws hold for, N a positive multiple of d and N/d a multiple of s,
--- computed over the 307 carrier sizes of the table. Of the turbo family: a size from 40 to 5,114.
+-- What an accepted set is. Of a carrier profile: a block that the carrier laws hold for, N a positive multiple of d and N/d a multiple of
+-- s, computed over the 307 carrier sizes of the table. Of the turbo family: a size from 40 to 5,114.
 use mathlib.Core.Path.{_≡_, refl, sym, ap, _∙_}
 use mathlib.Core.Bool.{Bool, true, false, cond, _&&_, false≢true}
 use mathlib.Core.Logic.{_≢_, ⊎-elim}
@@ -16,7 +16,9 @@ use Rattle.sets.specs.declared.Set.{Set}
 use Rattle.sets.specs.declared.Family.{Family}
 use Rattle.sets.specs.declared.Family.the-variants.{Carrier, Turbo}
 use Rattle.sets.specs.Size.{Size, size, sizeOf, allSizes, either-all}
-use Rattle.sets.specs.Profiles.{familyBy, familyOf, rowsBy, rowsOf, groupBy, groupOf, turboSizes, carriers, turbos, profiles, listedSizes, turbo-range}
+use Rattle.sets.specs.Profiles.{familyBy, familyOf, rowsBy, rowsOf, groupBy, groupOf}
+use Rattle.sets.specs.Profiles.{turboSizes, carriers, turbos, profiles, listedSizes}
+use Rattle.sets.specs.Listed.{turbo-range}
 use Rattle.sets.specs.Verdict.{verdictOf}
 use Rattle.sets.specs.Admits.{accepted-listed}
 
@@ -38,8 +40,11 @@ all-divide : every divides (allSizes carriers) ≡ true
 unfolding divides carriers
 all-divide = refl
 
-all-carriers : every (λ z. isCarrier (familyBy (z .profile))) (allSizes carriers) ≡ true
-unfolding isCarrier carriers
+ofCarrier : Size → Bool
+ofCarrier z = isCarrier (familyBy (z .profile))
+
+all-carriers : every ofCarrier (allSizes carriers) ≡ true
+unfolding isCarrier ofCarrier carriers
 all-carriers = refl
 
 carried-by : (s : Set) → divides (sizeOf s) ≡ true → Carried s
@@ -95,9 +100,9 @@ module _ (s : Set) (e : verdictOf s ≡ done tt) where
       (either-all carriers turbos (accepted-listed s e))
 
   pub turbo-size : familyOf s ≡ Turbo → (40 ≤ s .n) × (s .n ≤ 5114)
-  unfolding listedSizes profiles isCarrier familyOf
+  unfolding listedSizes profiles isCarrier ofCarrier familyOf
   turbo-size t =
-      ⊎-elim (λ m. absurd (false≢true (sym (ap isCarrier t) ∙ at-each (λ z. isCarrier (familyBy (z .profile))) (allSizes carriers) all-carriers m)))
+      ⊎-elim (λ m. absurd (false≢true (sym (ap isCarrier t) ∙ at-each ofCarrier (allSizes carriers) all-carriers m)))
       (λ m. turbo-one m .1) (either-all carriers turbos (accepted-listed s e))
 
 -- no listed size is above 6,144

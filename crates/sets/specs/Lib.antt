@@ -1,5 +1,6 @@
 pub mod Size
 pub mod Profiles
+pub mod Listed
 pub mod Beside
 pub mod Verdict
 pub mod Admits

@@ -1,20 +1,15 @@
--- The profiles: the family, d and s of each, and what it admits, twice: counted out, as document 01's table "Profiles and what each admits"
--- has it, with no remainder taken anywhere, and as three tests of a size. Then that the two agree, profile by profile.
-use mathlib.Core.Path.{_≡_, refl, sym, ap, _∙_}
-use mathlib.Core.Bool.{Bool, true, false, cond, _&&_}
-use mathlib.Core.Logic.{_≢_}
-use mathlib.Core.List.{List, [], _∷_, _++_, map, append-nil, List·Memᴰ, List·Memᴰ·head, Memᴰ·cast, Memᴰ·of-map}
-use Prim.Native.Nat.{ℕ, _+_, _-_, _*_, _/_, _≤_, _<_}
-use native.Mathlib.Omega.{arith}
+-- The profiles: the family, d and s of each, and what it admits, twice: document 01's table "Profiles and what each admits", counted out
+-- with no remainder taken anywhere; and the same as three tests of a size. specs/Listed.antt shows that the two agree.
+use mathlib.Core.Bool.{Bool, cond, _&&_}
+use mathlib.Core.List.{List, [], _∷_, _++_}
+use Prim.Native.Nat.{ℕ, _+_, _*_}
 use lib.Dec.{leb, eqb}
-use lib.ListN.{length, length-map}
-use borrow.Author.Tests.{le-leb, leb-true, eqb-true, ne-eqb}
-use Rattle.laws.specs.Run.{run, length-run, run-mem, mem-run}
-use Rattle.laws.specs.Members.{both, every, at-each, All, oneOf, one-of, multiple, multiple-of}
+use Rattle.laws.specs.Run.{run}
+use Rattle.laws.specs.Members.{oneOf, multiple}
 use Rattle.sets.specs.declared.Set.{Set}
 use Rattle.sets.specs.declared.Family.{Family}
 use Rattle.sets.specs.declared.Family.the-variants.{Carrier, Turbo}
-use Rattle.sets.specs.Size.{Size, size, sizeOf, Row, row, Profile, profile, multiples, sizesOf, allSizes}
+use Rattle.sets.specs.Size.{Size, row, Profile, profile, multiples, allSizes}
 
 -- the family of a profile: 5 (3GPP TS 25.212) is a turbo interleaver, 1 to 4 are carrier interleavers. For other profiles it is not read
 abbrev pub familyBy : ℕ → Family
@@ -37,6 +32,8 @@ groupBy b = cond (eqb b 6) 3 (cond (eqb b 4) 2 1)
 
 unfoldable pub groupOf : Set → ℕ
 groupOf s = groupBy (s .bits)
+
+-- the table, counted out
 
 -- 1, IEEE 802.16 OFDM: for w in 1, 2, 4, 8, 16: bits 1: 12w; 2: 24w; 4: 48w; 6: 72w
 abbrev pub ofdm : Profile
@@ -94,9 +91,14 @@ profiles = carriers ++ turbos
 unfoldable pub listedSizes : List Size
 listedSizes = allSizes profiles
 
+-- the same as tests of a size
+
 -- the profile is 1 to 5
+abbrev pub lastProfile : ℕ
+lastProfile = 5
+
 unfoldable pub profileListed : Size → Bool
-profileListed z = leb 1 (z .profile) && leb (z .profile) 5
+profileListed z = leb 1 (z .profile) && leb (z .profile) lastProfile
 
 -- the bits are listed for the profile: 2, 4, 6 for 2; else by family
 abbrev pub bitsBy : Family → List ℕ
@@ -120,109 +122,3 @@ sizeBy Turbo z = leb 40 (z .n) && leb (z .n) 5114
 
 unfoldable pub sizeListed : Size → Bool
 sizeListed z = sizeBy (familyBy (z .profile)) z
-
--- the last two, by the family of a set
-pub bits-by : (s : Set) {f : Family} → s .profile ≢ 2 → familyOf s ≡ f → bitsListed (sizeOf s) ≡ oneOf (s .bits) (bitsBy f)
-unfolding bitsListed familyOf
-bits-by s n e = rw (ne-eqb (s .profile) 2 n) (ap (λ (f : Family). oneOf (s .bits) (bitsBy f)) e)
-
-pub size-by : (s : Set) {f : Family} → familyOf s ≡ f → sizeListed (sizeOf s) ≡ sizeBy f (sizeOf s)
-unfolding sizeListed familyOf
-size-by s e = ap (λ (f : Family). sizeBy f (sizeOf s)) e
-
--- all three pass
-abbrev pub passes : Size → Bool
-passes z = profileListed z && (bitsListed z && sizeListed z)
-
--- the tests agree with a profile as it is counted out: they pass its sizes; bits that pass have a row; each row has a size, and has each
--- size that passes
-pub record Agrees (q : Profile) : Type 0 where
-  pub passing : {z : Size} → List·Memᴰ z (sizesOf q) → passes z ≡ true
-  pub has-row : (b n : ℕ) → bitsListed (size (q .number) b n) ≡ true → List·Memᴰ b (map (λ r. r .bits) (q .rows))
-  pub has-size : All (λ r. (n : ℕ) × List·Memᴰ n (r .sizes)) (q .rows)
-  pub has-each : All (λ r. (n : ℕ) → sizeListed (size (q .number) (r .bits) n) ≡ true → List·Memᴰ n (r .sizes)) (q .rows)
-
-ofdm-listed : Agrees ofdm
-unfolding profileListed bitsListed sizeListed carrierListed
-ofdm-listed = record {
-  passing = at-each passes (sizesOf ofdm) refl;
-  has-row = λ b n. one-of b (1 ∷ 2 ∷ 4 ∷ 6 ∷ []);
-  has-size = ((12, List·Memᴰ·head refl), ((24, List·Memᴰ·head refl), ((48, List·Memᴰ·head refl), ((72, List·Memᴰ·head refl), tt))));
-  has-each = (λ n. one-of n _, (λ n. one-of n _, (λ n. one-of n _, (λ n. one-of n _, tt))));
-}
-
-ofdma-listed : Agrees ofdma
-unfolding profileListed bitsListed sizeListed carrierListed
-ofdma-listed = record {
-  passing = at-each passes (sizesOf ofdma) refl;
-  has-row = λ b n. one-of b (2 ∷ 4 ∷ 6 ∷ []);
-  has-size = ((96, List·Memᴰ·head refl), ((192, List·Memᴰ·head refl), ((288, List·Memᴰ·head refl), tt)));
-  has-each = (λ n. multiple-of 96 576 n (omega arith), (λ n. multiple-of 192 576 n (omega arith), (λ n. multiple-of 288 576 n (omega arith), tt)));
-}
-
-wlan-listed : Agrees wlan
-unfolding profileListed bitsListed sizeListed carrierListed
-wlan-listed = record {
-  passing = at-each passes (sizesOf wlan) refl;
-  has-row = λ b n. one-of b (1 ∷ 2 ∷ 4 ∷ 6 ∷ []);
-  has-size = ((48, List·Memᴰ·head refl), ((96, List·Memᴰ·head refl), ((192, List·Memᴰ·head refl), ((288, List·Memᴰ·head refl), tt))));
-  has-each = (is 48, (is 96, (is 192, (is 288, tt))));
-}
-  where
-    is : (m n : ℕ) → eqb n m ≡ true → List·Memᴰ n (m ∷ [])
-    is m n e = List·Memᴰ·head (eqb-true n m e)
-
-bench-listed : Agrees bench
-unfolding profileListed bitsListed sizeListed carrierListed
-bench-listed = record {
-  passing = at-each passes (sizesOf bench) refl;
-  has-row = λ b n. one-of b (1 ∷ 2 ∷ 4 ∷ 6 ∷ []);
-  has-size = ((16, List·Memᴰ·head refl), ((16, List·Memᴰ·head refl), ((32, List·Memᴰ·head refl), ((48, List·Memᴰ·head refl), tt))));
-  has-each = (fits 16 (omega arith), (fits 16 (omega arith), (fits 32 (omega arith), (fits 48 (omega arith), tt))));
-}
-  where
-    fits : (u : ℕ) → 0 < u → (n : ℕ) → multiple u 1536 n ≡ true → List·Memᴰ n (multiples u (1536 / u))
-    fits u h n = multiple-of u 1536 n h
-
--- the sizes of the turbo profile are 40 to 5,114
-pub turbo-range : {n : ℕ} → List·Memᴰ n turboSizes → (40 ≤ n) × (n ≤ 5114)
-unfolding turboSizes
-turbo-range m = let r = mem-run (λ j. 40 + j) 0 5075 m in (omega (arith, r .3), omega (arith, r .2, r .3))
-
-range-turbo : (n : ℕ) → 40 ≤ n → n ≤ 5114 → List·Memᴰ n turboSizes
-unfolding turboSizes
-range-turbo n lo hi = Memᴰ·cast {a = n} (omega arith) (run-mem (λ j. 40 + j) 0 5075 (n - 40) (omega arith) (omega arith))
-
-turbo-listed : Agrees turbo
-unfolding profileListed bitsListed sizeListed
-turbo-listed = record {
-  passing = passing;
-  has-row = λ b n. one-of b (1 ∷ []);
-  has-size = ((40, range-turbo 40 (omega arith) (omega arith)), tt);
-  has-each = (λ n e. let q = both (leb 40 n) (leb n 5114) e in range-turbo n (leb-true 40 n (q .0)) (leb-true n 5114 (q .1)), tt);
-}
-  where
-    passing : {z : Size} → List·Memᴰ z (sizesOf turbo) → passes z ≡ true
-    passing {z} m =
-        let q = Memᴰ·of-map (size 5 1) turboSizes (rw append-nil at m) in
-        let r = turbo-range (q .1) in
-        ap passes (sym (q .2)) ∙ simp (le-leb 40 (q .0) (r .0), le-leb (q .0) 5114 (r .1))
-
-pub all-listed : All Agrees profiles
-unfolding profiles carriers turbos
-all-listed = (ofdm-listed, (ofdma-listed, (wlan-listed, (bench-listed, (turbo-listed, tt)))))
-
--- how many sizes each profile has
-pub record Counts : Type 0 where
-  pub ofdm-has : length (sizesOf ofdm) ≡ 20
-  pub ofdma-has : length (sizesOf ofdma) ≡ 11
-  pub wlan-has : length (sizesOf wlan) ≡ 4
-  pub bench-has : length (sizesOf bench) ≡ 272
-  pub turbo-has : length (sizesOf turbo) ≡ 5075
-
-length-turbo : length (sizesOf turbo) ≡ 5075
-unfolding turboSizes
-length-turbo = ap length (append-nil (map (size 5 1) turboSizes)) ∙ length-map turboSizes (size 5 1) ∙ length-run (λ j. 40 + j) 0 5075
-
-pub counts : Counts
-counts = record { ofdm-has = refl; ofdma-has = refl; wlan-has = refl; bench-has = refl; turbo-has = length-turbo }

@@ -1,5 +1,5 @@
--- The refusals of a set in the sentences of document 01, in its order: 1, 2, 3, and what a set must have beside its size; and that a number is
--- said exactly when its sentence is the first that holds. Lines of other calls may stand behind.
+-- The refusals of a set in the sentences of document 01, in its order: 1, 2, 3, and what a set must have beside its size; and that a number
+-- is said exactly when its sentence is the first that holds. Lines of other calls may stand behind.
 use Prim.Native.Nat.{ℕ, _≤_}
 use mathlib.Core.Bool.{true}
 use mathlib.Core.List.{List, [], _∷_, _++_, List·Memᴰ}
@@ -14,14 +14,14 @@ use Rattle.laws.specs.Told.{told-under, told-unless, told-join}
 use Rattle.sets.specs.declared.Set.{Set}
 use Rattle.sets.specs.declared.Refusal.{Refusal}
 use Rattle.sets.specs.Size.{Size, size, sizeOf}
-use Rattle.sets.specs.Profiles.{listedSizes, profileListed, bitsListed}
+use Rattle.sets.specs.Profiles.{listedSizes, lastProfile, profileListed, bitsListed}
 use Rattle.sets.specs.Beside.{besideSentences, beside-told}
 use Rattle.sets.specs.Verdict.{sizeLines, setLines, refusal, verdictOf, refusal-number}
 use Rattle.sets.specs.Admits.{some-listed, listed-passing, passing-listed, clear-listed}
 
 -- the profile is 1 to 5
-abbrev pub OneToFive : Size → Type 0
-OneToFive z = (1 ≤ z .profile) × (z .profile ≤ 5)
+abbrev pub ProfileListed : Size → Type 0
+ProfileListed z = (1 ≤ z .profile) × (z .profile ≤ lastProfile)
 
 -- the bits are listed for the profile: with some size
 abbrev pub BitsListed : Size → Type 0
@@ -33,19 +33,21 @@ SizeListed z = List·Memᴰ z listedSizes
 
 -- 1: the profile isn't 1 to 5; 2: the bits aren't listed for the profile; 3: N isn't listed for that profile and those bits
 abbrev pub sizeSentences : Size → List Sentence
-sizeSentences z = sentence 1 (OneToFive z → ⊥) ∷ sentence 2 (BitsListed z → ⊥) ∷ sentence 3 (SizeListed z → ⊥) ∷ []
+sizeSentences z = sentence 1 (ProfileListed z → ⊥) ∷ sentence 2 (BitsListed z → ⊥) ∷ sentence 3 (SizeListed z → ⊥) ∷ []
 
 abbrev pub setSentences : Set → List Sentence
 setSentences s = sizeSentences (sizeOf s) ++ besideSentences s
 
 -- the tests and the sentences
-profile-true : (z : Size) → profileListed z ≡ true → OneToFive z
+profile-true : (z : Size) → profileListed z ≡ true → ProfileListed z
 unfolding profileListed
-profile-true z e = let q = both (leb 1 (z .profile)) (leb (z .profile) 5) e in (leb-true 1 (z .profile) (q .0), leb-true (z .profile) 5 (q .1))
+profile-true z e =
+    let q = both (leb 1 (z .profile)) (leb (z .profile) lastProfile) e in
+    (leb-true 1 (z .profile) (q .0), leb-true (z .profile) lastProfile (q .1))
 
-true-profile : (z : Size) → OneToFive z → profileListed z ≡ true
+true-profile : (z : Size) → ProfileListed z → profileListed z ≡ true
 unfolding profileListed
-true-profile z h = simp (le-leb 1 (z .profile) (h .0), le-leb (z .profile) 5 (h .1))
+true-profile z h = simp (le-leb 1 (z .profile) (h .0), le-leb (z .profile) lastProfile (h .1))
 
 true-bits : (z : Size) → BitsListed z → bitsListed z ≡ true
 unfolding bitsListed
@@ -55,7 +57,8 @@ pub size-told : {C : Type 0} (z : Size) → Told C (sizeLines z) (sizeSentences 
 size-told {C} z =
     told-unless 1 (λ c. profile-true z) (λ c. true-profile z)
     (told-unless 2 (λ (c : C × (profileListed z ≡ true)). some-listed z (c .1)) (λ c. true-bits z)
-    (told-unless 3 (λ (c : (C × (profileListed z ≡ true)) × (bitsListed z ≡ true)). passing-listed z (c .0 .1) (c .1)) (λ c h. listed-passing z h .size-passes) none))
+    (told-unless 3 (λ (c : (C × (profileListed z ≡ true)) × (bitsListed z ≡ true)). passing-listed z (c .0 .1) (c .1))
+    (λ c h. listed-passing z h .size-passes) none))
 
 -- the lines of a set
 pub set-told : {C : Type 0} (s : Set) → Told C (setLines s) (setSentences s)

@@ -1,8 +1,10 @@
 -- A size is what a table lists: a profile, bits per carrier and N. A table is counted out profile by profile, each with a row for its bits
 -- and the N that go with them. Over any table; specs/Profiles.antt has the one of document 01.
 use mathlib.Core.Path.{_≡_, refl}
+use mathlib.Core.Bool.{Bool, true, false, false≢true}
 use mathlib.Core.Logic.{_⊎_, inl, inr, ⊎-elim}
-use mathlib.Core.List.{List, [], _∷_, _++_, map, List·Memᴰ, List·Memᴰ·head, List·Memᴰ·tail, List·Memᴰ·not-nil, List·Memᴰ·cases-cons, List·Memᴰ·append-cases, Memᴰ·append-left, Memᴰ·append-right, Memᴰ·map}
+use mathlib.Core.List.{List, [], _∷_, _++_, map, List·Memᴰ, List·Memᴰ·head, List·Memᴰ·tail, List·Memᴰ·not-nil, List·Memᴰ·cases-cons}
+use mathlib.Core.List.{List·Memᴰ·append-cases, Memᴰ·append-left, Memᴰ·append-right, Memᴰ·map}
 use Prim.Native.Nat.{ℕ, _*_}
 use Rattle.laws.specs.Run.{run}
 use Rattle.sets.specs.declared.Set.{Set}
@@ -39,6 +41,15 @@ profile p rs = record { number = p; rows = rs }
 abbrev pub multiples : ℕ → ℕ → List ℕ
 multiples u m = run (λ j. u * j) 1 m
 
+-- some number stands in a list, as a test
+abbrev pub some : List ℕ → Bool
+some [] = false
+some (n ∷ ns) = true
+
+pub some-of : (ns : List ℕ) → some ns ≡ true → (n : ℕ) × List·Memᴰ n ns
+some-of [] e = absurd (false≢true e)
+some-of (n ∷ ns) e = (n, List·Memᴰ·head refl)
+
 -- the sizes of rows, of a profile, of profiles
 abbrev pub inRows : ℕ → List Row → List Size
 inRows p [] = []
@@ -52,7 +63,8 @@ allSizes [] = []
 allSizes (q ∷ qs) = sizesOf q ++ allSizes qs
 
 -- what stands in a row stands in the profile, and what stands in a profile stands in the table ..
-pub in-rows : (p : ℕ) (rs : List Row) {r : Row} {n : ℕ} → List·Memᴰ r rs → List·Memᴰ n (r .sizes) → List·Memᴰ (size p (r .bits) n) (inRows p rs)
+pub in-rows : (p : ℕ) (rs : List Row) {r : Row} {n : ℕ}
+    → List·Memᴰ r rs → List·Memᴰ n (r .sizes) → List·Memᴰ (size p (r .bits) n) (inRows p rs)
 in-rows p [] m h = absurd (List·Memᴰ·not-nil m)
 in-rows p (q ∷ rs) {r} {n} m h =
     ⊎-elim here (λ l. Memᴰ·append-right (map (size p (q .bits)) (q .sizes)) (in-rows p rs l h)) (List·Memᴰ·cases-cons m)
@@ -71,10 +83,12 @@ in-all (p ∷ qs) {q} {z} m h = ⊎-elim here (λ l. Memᴰ·append-right (sizes
 pub of-all : (qs : List Profile) {z : Size} → List·Memᴰ z (allSizes qs) → (q : Profile) × List·Memᴰ q qs × List·Memᴰ z (sizesOf q)
 of-all [] m = absurd (List·Memᴰ·not-nil m)
 of-all (p ∷ qs) m =
-    ⊎-elim (λ h. (p, List·Memᴰ·head refl, h)) (λ h. let r = of-all qs h in (r .0, List·Memᴰ·tail (r .1), r .2)) (List·Memᴰ·append-cases (sizesOf p) m)
+    ⊎-elim (λ h. (p, List·Memᴰ·head refl, h)) (λ h. let r = of-all qs h in (r .0, List·Memᴰ·tail (r .1), r .2))
+    (List·Memᴰ·append-cases (sizesOf p) m)
 
 -- in one of two tables
-pub either-all : (ps qs : List Profile) {z : Size} → List·Memᴰ z (allSizes (ps ++ qs)) → List·Memᴰ z (allSizes ps) ⊎ List·Memᴰ z (allSizes qs)
+pub either-all : (ps qs : List Profile) {z : Size}
+    → List·Memᴰ z (allSizes (ps ++ qs)) → List·Memᴰ z (allSizes ps) ⊎ List·Memᴰ z (allSizes qs)
 either-all ps qs m =
     let r = of-all (ps ++ qs) m in
     ⊎-elim (λ l. inl (in-all ps l (r .2))) (λ l. inr (in-all qs l (r .2))) (List·Memᴰ·append-cases ps (r .1))

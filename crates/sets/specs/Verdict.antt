@@ -1,4 +1,4 @@
--- The test of a set: refusals 1, 2 and 3 of document 01, of its size, and then the lines of what it must have beside it (specs/Beside.antt).
+-- The test of a set: refusals 1, 2 and 3 of document 01, which are of its size, and then what it must have beside it (specs/Beside.antt).
 use Prim.Native.Nat.{ℕ}
 use mathlib.Core.Bool.{not}
 use mathlib.Core.List.{List, [], _∷_, _++_}

@@ -132,7 +132,8 @@ fn size_listed(set: Set) -> bool
     }
 }
 
-// The test of a parameter set: 1, 2, 3, in that order, and nothing more. (`verdicts-apart` in specs/Verdict.antt: what is said leaves one answer.)
+// The test of a parameter set: 1, 2, 3, in that order, and nothing more. (`verdicts-apart` in specs/Verdict.antt: what is said leaves one
+// answer.)
 pub fn test(set: Set) -> Verdict
     ensures { λ r. ⌜ sayVerdict r ≡ verdictOf set ⌝ }
 {

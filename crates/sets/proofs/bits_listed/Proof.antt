@@ -3,7 +3,8 @@ use mathlib.Core.Bool.{or-false}
 use mathlib.Core.Path.{sym, _∙_}
 use borrow.Author.Needs.{needs}
 use borrow.Author.Tests.{eq-eqb, ne-eqb}
-use Rattle.sets.specs.Profiles.{bitsListed, bits-by}
+use Rattle.sets.specs.Profiles.{bitsListed}
+use Rattle.sets.specs.Listed.{bits-by}
 use Rattle.sets.proofs.bits_listed.Statement.{statement}
 use Rattle.sets.proofs.bits_listed.Tie as tie
 

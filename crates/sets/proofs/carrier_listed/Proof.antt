@@ -5,7 +5,8 @@ use mathlib.Core.Bool.{or-false}
 use borrow.Author.Needs.{needs}
 use borrow.Author.Tests.{eq-eqb, ne-eqb}
 use Rattle.laws.specs.Members.{multiple}
-use Rattle.sets.specs.Profiles.{groupOf, carrierListed}
+use Rattle.sets.specs.Profiles.{carrierListed}
+use Rattle.sets.specs.Listed.{bench-by}
 use Rattle.sets.proofs.carrier_listed.Statement.{statement}
 use Rattle.sets.proofs.carrier_listed.Tie as tie
 
@@ -55,12 +56,12 @@ multiple-of-requires-2 : tie.Need-multiple-of-requires-2
 multiple-of-requires-2 c κs = search needs
 
 returns-4 : tie.Need-returns-4
-unfolding carrierListed groupOf
 returns-4 c =
     let g = c .before in
+    let i = g .before in
     c .multiple-of2 .ensures
-    ∙ ap (λ (u : ℕ). multiple (16 * u) 1536 (g .before .before .before .before .args .set .n)) (g .group-of .ensures .0)
-    ∙ sym (rw (ne-eqb _ 1 (g .before .before .before .if1 .left), ne-eqb _ 2 (g .before .before .if2 .left), ne-eqb _ 3 (g .before .if3 .left)))
+    ∙ ap (λ (u : ℕ). multiple (16 * u) 1536 (i .before .before .before .args .set .n)) (g .group-of .ensures .0)
+    ∙ sym (bench-by _ (i .before .before .if1 .left) (i .before .if2 .left) (i .if3 .left))
 
 pub carrier-listed-spec : {M : Type 1} → statement M
 carrier-listed-spec =

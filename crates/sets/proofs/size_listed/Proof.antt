@@ -1,7 +1,7 @@
 -- `sets::size_listed` is the test of the size, family by family.
 use mathlib.Core.Path.{sym, _∙_}
 use borrow.Author.Needs.{needs}
-use Rattle.sets.specs.Profiles.{size-by}
+use Rattle.sets.specs.Listed.{size-by}
 use Rattle.sets.proofs.size_listed.Statement.{statement}
 use Rattle.sets.proofs.size_listed.Tie as tie
 
