@@ -14,7 +14,8 @@ use Rattle.laws.specs.Told.{NoneTrue}
 use Rattle.laws.specs.Walk.{Rule}
 use Rattle.sets.specs.declared.Set.{Set}
 use Rattle.sets.specs.Size.{sizeOf, sizesOf}
-use Rattle.sets.specs.Profiles.{rowsOf, groupOf, ofdm, ofdma, wlan, bench, turbo, listedSizes, counts}
+use Rattle.sets.specs.Profiles.{rowsOf, groupOf, ofdm, ofdma, wlan, bench, turbo, listedSizes}
+use Rattle.sets.specs.Listed.{counts}
 use Rattle.sets.specs.Beside.{besideSentences}
 use Rattle.sets.specs.Verdict.{verdictOf}
 use Rattle.sets.specs.Admits as admitted
@@ -27,12 +28,13 @@ use Rattle.walks.specs.Lists as lists
 use Rattle.blocks.specs.Answer.{movedOf, interleaved, deinterleaved}
 use Rattle.blocks.specs.Laws as moves
 
--- "Exactly the listed parameter sets are accepted": the test of a set says accepted if and only if its size, that is its profile, bits and N,
--- stands in document 01's table, counted out size by size, and no sentence of what a set must have beside it holds: there is none today ..
+-- "Exactly the listed parameter sets are accepted": the test of a set says accepted if and only if its size, which is its profile, bits and N,
+-- stands in document 01's table, counted out size by size, and no sentence of what a set must have beside it holds. (Crate sets,
+-- specs/Beside.antt: it need have nothing.) The table ..
 pub admits : (s : Set) → (List·Memᴰ (sizeOf s) listedSizes × NoneTrue (besideSentences s)) ↔ (verdictOf s ≡ done tt)
 admits s = admitted.admits s
 
--- .. which has 20, 11, 4, 272 and 5,075 entries for profiles 1 to 5
+-- .. has 20, 11, 4, 272 and 5,075 sizes for profiles 1 to 5
 pub listed-counts : (length (sizesOf ofdm) ≡ 20) × (length (sizesOf ofdma) ≡ 11) × (length (sizesOf wlan) ≡ 4) × (length (sizesOf bench) ≡ 272)
     × (length (sizesOf turbo) ≡ 5075)
 listed-counts = (counts .ofdm-has, counts .ofdma-has, counts .wlan-has, counts .bench-has, counts .turbo-has)
