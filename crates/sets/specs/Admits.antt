@@ -1,17 +1,17 @@
 -- Exactly the sets of a listed size, with what they must have beside it, are accepted: no line of the test applies to a size if and only
 -- if it stands in the table that specs/Profiles.antt counts out. Each way goes by what specs/Listed.antt shows of every profile.
-use mathlib.Core.Path.{_≡_, sym, subst}
+use mathlib.Core.Path.{_≡_, refl, sym, subst}
 use mathlib.Core.Bool.{true, _&&_}
 use mathlib.Core.Logic.{_↔_}
-use mathlib.Core.List.{List·Memᴰ, Memᴰ·of-map}
+use mathlib.Core.List.{List, map, List·Memᴰ, Memᴰ·of-map}
 use Prim.Native.Nat.{ℕ}
 use native.Mathlib.Omega.{arith}
 use lib.Dec.{leb}
 use borrow.Author.Tests.{leb-true, not-false}
 use Rattle.laws.specs.Outcome.{done, Clear, done-clear, clear-done}
 use Rattle.laws.specs.Told.{NoneTrue, told-clear, clear-join, clear-parts}
-use Rattle.laws.specs.Run.{run-mem}
-use Rattle.laws.specs.Members.{both, at-each, by-member}
+use Rattle.laws.specs.Run.{run, run-mem}
+use Rattle.laws.specs.Members.{both, every, at-each, by-member, oneOf, one-of}
 use Rattle.sets.specs.declared.Set.{Set}
 use Rattle.sets.specs.Size.{Size, size, sizeOf, some, some-of, Row, Profile, sizesOf, in-rows, in-all, of-all}
 use Rattle.sets.specs.Profiles.{profiles, carriers, turbos, listedSizes, lastProfile, profileListed, bitsListed, sizeListed}
@@ -26,13 +26,22 @@ pub record Listing (z : Size) : Type 0 where
   pub number-is : its .number ≡ z .profile
   pub agrees : Agrees its
 
+-- the profiles are numbered 1 to the last
+numbers : List ℕ
+numbers = map (λ q. q .number) profiles
+
+numbered : every (λ p. oneOf p numbers) (run (λ j. j) 1 lastProfile) ≡ true
+unfolding numbers profiles carriers turbos
+numbered = refl
+
 pub listing : (z : Size) → profileListed z ≡ true → Listing z
-unfolding profileListed profiles carriers turbos
+unfolding profileListed numbers
 listing z e =
     let q = both (leb 1 (z .profile)) (leb (z .profile) lastProfile) e in
     let lo = leb-true 1 (z .profile) (q .0) in
     let hi = leb-true (z .profile) lastProfile (q .1) in
-    let m = Memᴰ·of-map (λ p. p .number) profiles (run-mem (λ j. j) 1 lastProfile (z .profile) lo (omega arith)) in
+    let one = at-each (λ p. oneOf p numbers) (run (λ j. j) 1 lastProfile) numbered (run-mem (λ j. j) 1 lastProfile (z .profile) lo (omega arith)) in
+    let m = Memᴰ·of-map (λ q. q .number) profiles (one-of (z .profile) numbers one) in
     record { its = m .0; one = m .1; number-is = m .2; agrees = by-member Agrees profiles all-listed (m .1) }
 
 -- bits that pass have a row there
