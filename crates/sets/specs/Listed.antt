@@ -3,8 +3,9 @@
 use mathlib.Core.Path.{_≡_, refl, sym, ap, _∙_}
 use mathlib.Core.Bool.{Bool, true, false, cond, _&&_}
 use mathlib.Core.Logic.{_≢_}
-use mathlib.Core.List.{List, [], _∷_, map, append-nil, List·Memᴰ, List·Memᴰ·head, Memᴰ·cast, Memᴰ·of-map}
-use Prim.Native.Nat.{ℕ, _+_, _-_, _*_, _/_, _≤_, _<_}
+use mathlib.Core.List.{List, [], _∷_, map, append-nil, List·Memᴰ, List·Memᴰ·head, List·Memᴰ·tail, List·Memᴰ·eq-of-singleton}
+use mathlib.Core.List.{Memᴰ·cast, Memᴰ·of-map}
+use Prim.Native.Nat.{ℕ, max, _+_, _-_, _*_, _/_, _≤_, _<_}
 use native.Mathlib.Omega.{arith}
 use lib.Dec.{leb, ltb, eqb}
 use lib.ListN.{length, length-map}
@@ -15,8 +16,8 @@ use Rattle.sets.specs.declared.Set.{Set}
 use Rattle.sets.specs.declared.Family.{Family}
 use Rattle.sets.specs.declared.Family.the-variants.{Carrier, Turbo}
 use Rattle.sets.specs.Size.{Size, size, sizeOf, some, Row, Profile, multiples, sizesOf}
-use Rattle.sets.specs.Profiles.{familyBy, familyOf, groupOf, ofdm, ofdma, wlan, bench, turboSizes, turbo, carriers, turbos, profiles}
-use Rattle.sets.specs.Profiles.{profileListed, bitsBy, bitsListed, carrierListed, sizeBy, sizeListed}
+use Rattle.sets.specs.Profiles.{ofdm, ofdma, wlan, bench, turboSizes, turbo, carriers, turbos, profiles}
+use Rattle.sets.specs.Profiles.{familyBy, familyOf, groupBy, groupOf, profileListed, bitsBy, bitsListed, carrierListed, sizeBy, sizeListed}
 
 -- all three pass
 abbrev pub passes : Size → Bool
@@ -34,6 +35,13 @@ pub record Agrees (q : Profile) : Type 0 where
   pub has-size : every (λ r. some (r .sizes)) (q .rows) ≡ true
   pub has-each : All (HasEach (q .number)) (q .rows)
 
+-- rows of one size, and of the multiples of u up to m
+only : (m n : ℕ) → eqb n m ≡ true → List·Memᴰ n (m ∷ [])
+only m n e = List·Memᴰ·head (eqb-true n m e)
+
+upto : (m u : ℕ) → 0 < u → (n : ℕ) → multiple u m n ≡ true → List·Memᴰ n (multiples u (m / u))
+upto m u h n = multiple-of u m n h
+
 ofdm-listed : Agrees ofdm
 unfolding profileListed bitsListed sizeListed carrierListed
 ofdm-listed = record {
@@ -49,11 +57,8 @@ ofdma-listed = record {
   passing = at-each passes (sizesOf ofdma) refl;
   has-row = λ b n. one-of b (2 ∷ 4 ∷ 6 ∷ []);
   has-size = refl;
-  has-each = (fits 96 (omega arith), (fits 192 (omega arith), (fits 288 (omega arith), tt)));
+  has-each = (upto 576 96 (omega arith), (upto 576 192 (omega arith), (upto 576 288 (omega arith), tt)));
 }
-  where
-    fits : (u : ℕ) → 0 < u → (n : ℕ) → multiple u 576 n ≡ true → List·Memᴰ n (multiples u (576 / u))
-    fits u h n = multiple-of u 576 n h
 
 wlan-listed : Agrees wlan
 unfolding profileListed bitsListed sizeListed carrierListed
@@ -61,11 +66,8 @@ wlan-listed = record {
   passing = at-each passes (sizesOf wlan) refl;
   has-row = λ b n. one-of b (1 ∷ 2 ∷ 4 ∷ 6 ∷ []);
   has-size = refl;
-  has-each = (is 48, (is 96, (is 192, (is 288, tt))));
+  has-each = (only 48, (only 96, (only 192, (only 288, tt))));
 }
-  where
-    is : (m n : ℕ) → eqb n m ≡ true → List·Memᴰ n (m ∷ [])
-    is m n e = List·Memᴰ·head (eqb-true n m e)
 
 bench-listed : Agrees bench
 unfolding profileListed bitsListed sizeListed carrierListed
@@ -73,11 +75,8 @@ bench-listed = record {
   passing = at-each passes (sizesOf bench) refl;
   has-row = λ b n. one-of b (1 ∷ 2 ∷ 4 ∷ 6 ∷ []);
   has-size = refl;
-  has-each = (fits 16 (omega arith), (fits 16 (omega arith), (fits 32 (omega arith), (fits 48 (omega arith), tt))));
+  has-each = (upto 1536 16 (omega arith), (upto 1536 16 (omega arith), (upto 1536 32 (omega arith), (upto 1536 48 (omega arith), tt))));
 }
-  where
-    fits : (u : ℕ) → 0 < u → (n : ℕ) → multiple u 1536 n ≡ true → List·Memᴰ n (multiples u (1536 / u))
-    fits u h n = multiple-of u 1536 n h
 
 -- the sizes of the turbo profile are 40 to 5,114
 pub turbo-range : {n : ℕ} → List·Memᴰ n turboSizes → (40 ≤ n) × (n ≤ 5114)
@@ -137,20 +136,22 @@ pub bench-by : (s : Set) → s .profile ≢ 1 → s .profile ≢ 2 → s .profil
 unfolding carrierListed groupOf
 bench-by s a b c = rw (ne-eqb (s .profile) 1 a, ne-eqb (s .profile) 2 b, ne-eqb (s .profile) 3 c)
 
--- the bits that are listed are small
-pub bits-small : (z : Size) → bitsListed z ≡ true → (0 < z .bits) × (z .bits < 7)
+-- the bits that are listed are among 1, 2, 4, 6
+bits-among : (z : Size) → bitsListed z ≡ true → List·Memᴰ (z .bits) (1 ∷ 2 ∷ 4 ∷ 6 ∷ [])
 unfolding bitsListed
-bits-small z e =
-    let q = both (ltb 0 (z .bits)) (ltb (z .bits) 7) (go (eqb (z .profile) 2) (familyBy (z .profile)) e) in
-    (ltb-true 0 (z .bits) (q .0), ltb-true (z .bits) 7 (q .1))
+bits-among z e = go (eqb (z .profile) 2) (familyBy (z .profile)) e
   where
-    small : ℕ → Bool
-    small b = ltb 0 b && ltb b 7
+    go : (t : Bool) (f : Family) → oneOf (z .bits) (cond t (2 ∷ 4 ∷ 6 ∷ []) (bitsBy f)) ≡ true → List·Memᴰ (z .bits) (1 ∷ 2 ∷ 4 ∷ 6 ∷ [])
+    go true f e = List·Memᴰ·tail (one-of (z .bits) (2 ∷ 4 ∷ 6 ∷ []) e)
+    go false Carrier e = one-of (z .bits) (1 ∷ 2 ∷ 4 ∷ 6 ∷ []) e
+    go false Turbo e = List·Memᴰ·head (List·Memᴰ·eq-of-singleton (one-of (z .bits) (1 ∷ []) e))
 
-    listed : (bs : List ℕ) → every small bs ≡ true → oneOf (z .bits) bs ≡ true → small (z .bits) ≡ true
-    listed bs a e = at-each small bs a (one-of (z .bits) bs e)
+-- so they are small, and s is what IEEE 802.11 has, max(N_BPSC/2, 1)
+pub bits-small : (z : Size) → bitsListed z ≡ true → (0 < z .bits) × (z .bits < 7)
+bits-small z e =
+    let q = both (ltb 0 (z .bits)) (ltb (z .bits) 7) (at-each (λ b. ltb 0 b && ltb b 7) (1 ∷ 2 ∷ 4 ∷ 6 ∷ []) refl (bits-among z e)) in
+    (ltb-true 0 (z .bits) (q .0), ltb-true (z .bits) 7 (q .1))
 
-    go : (t : Bool) (f : Family) → oneOf (z .bits) (cond t (2 ∷ 4 ∷ 6 ∷ []) (bitsBy f)) ≡ true → small (z .bits) ≡ true
-    go true f e = listed (2 ∷ 4 ∷ 6 ∷ []) refl e
-    go false Carrier e = listed (bitsBy Carrier) refl e
-    go false Turbo e = listed (bitsBy Turbo) refl e
+pub group-standard : (s : Set) → bitsListed (sizeOf s) ≡ true → groupOf s ≡ max (s .bits / 2) 1
+unfolding groupOf
+group-standard s e = eqb-true _ _ (at-each (λ b. eqb (groupBy b) (max (b / 2) 1)) (1 ∷ 2 ∷ 4 ∷ 6 ∷ []) refl (bits-among (sizeOf s) e))

@@ -25,8 +25,8 @@ rowsBy p = cond (eqb p 1) 12 16
 unfoldable pub rowsOf : Set → ℕ
 rowsOf s = rowsBy (s .profile)
 
--- s of a carrier profile, in IEEE 802.11 max(N_BPSC/2, 1), N_BPSC being the bits per carrier: 1, 1, 2, 3 for bits 1, 2, 4, 6. For other
--- bits it is not read
+-- s of a carrier profile: 1, 1, 2, 3 for bits 1, 2, 4, 6, which is max(N_BPSC/2, 1) of IEEE 802.11, N_BPSC being the bits per carrier
+-- (`group-standard` in specs/Listed.antt). For other bits it is not read
 abbrev pub groupBy : ℕ → ℕ
 groupBy b = cond (eqb b 6) 3 (cond (eqb b 4) 2 1)
 
