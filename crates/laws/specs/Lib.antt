@@ -23,3 +23,9 @@ pub mod Pieces
 pub mod Leaves
 pub mod Blind
 pub mod Sentences
+pub mod Residue
+pub mod Euclid
+pub mod Shared
+pub mod Stepped
+pub mod Seek
+pub mod Told

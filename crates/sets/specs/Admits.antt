@@ -1,180 +1,125 @@
--- Exactly the listed sets are accepted: a set stands in the table that specs/Listed.antt counts out if and only if no line of the test
--- applies to it. One way is computed over the carrier sets, set by set; the other goes by profile and bits. Assumes nothing.
-use mathlib.Core.Path.{_≡_, refl, sym, ap, _∙_}
-use mathlib.Core.Bool.{Bool, true, false, cond, _&&_}
-use mathlib.Core.Logic.{⊎-elim}
-use mathlib.Core.List.{[], _∷_, List·Memᴰ, List·Memᴰ·head, List·Memᴰ·append-cases, Memᴰ·append-left, Memᴰ·append-right, Memᴰ·cast, Memᴰ·map, Memᴰ·of-map}
-use Prim.Native.Nat.{ℕ, _+_, _-_, _≤_, _<_}
+-- Exactly the sets of a listed size, with what they must have beside it, are accepted: no line of the test applies to a size if and only
+-- if it stands in the table that specs/Profiles.antt counts out. Each way goes by what specs/Listed.antt shows of every profile.
+use mathlib.Core.Path.{_≡_, refl, sym, subst}
+use mathlib.Core.Bool.{true, _&&_}
+use mathlib.Core.Logic.{_↔_}
+use mathlib.Core.List.{List, map, List·Memᴰ, Memᴰ·of-map}
+use Prim.Native.Nat.{ℕ}
 use native.Mathlib.Omega.{arith}
-use lib.Dec.{leb, ltb, eqb}
-use lib.ListN.{length, getD}
-use borrow.Author.Tests.{le-leb, leb-true, ltb-true, not-false, eqb-true}
-use Rattle.laws.specs.Outcome.{done, done-clear}
-use Rattle.laws.specs.Run.{run-mem, mem-run, mem-at}
-use Rattle.laws.specs.Members.{both, every, at-each, by-member, oneOf, one-of, multiple-of}
+use lib.Dec.{leb}
+use borrow.Author.Tests.{leb-true, not-false}
+use Rattle.laws.specs.Outcome.{done, Clear, done-clear, clear-done}
+use Rattle.laws.specs.Told.{NoneTrue, told-clear, clear-join, clear-parts}
+use Rattle.laws.specs.Run.{run, run-mem}
+use Rattle.laws.specs.Members.{both, every, at-each, by-member, oneOf, one-of}
 use Rattle.sets.specs.declared.Set.{Set}
-use Rattle.sets.specs.Profiles.{groupOf, profileListed, bitsListed, sizeListed}
-use Rattle.sets.specs.Verdict.{setLines, refusal, verdictOf}
-use Rattle.sets.specs.Listed.{Row, row, set, setsOf, ofdm, ofdma, wlan, bench, carriers, turboSizes, turbo, listedSets, in-rows}
+use Rattle.sets.specs.Size.{Size, size, sizeOf, some, some-of, Row, Profile, sizesOf, in-rows, in-all, of-all}
+use Rattle.sets.specs.Profiles.{profiles, carriers, turbos, listedSizes, lastProfile, profileListed, bitsListed, sizeListed}
+use Rattle.sets.specs.Listed.{HasEach, Agrees, all-listed}
+use Rattle.sets.specs.Beside.{besideLines, besideSentences, beside-told}
+use Rattle.sets.specs.Verdict.{sizeLines, setLines, refusal, verdictOf}
 
--- the three tests pass
-abbrev accepts : Set → Bool
-accepts s = profileListed s && (bitsListed s && sizeListed s)
+-- the profile of a size, where it is listed
+pub record Listing (z : Size) : Type 0 where
+  pub its : Profile
+  pub one : List·Memᴰ its profiles
+  pub number-is : its .number ≡ z .profile
+  pub agrees : Agrees its
 
-pub accepted : (s : Set) → accepts s ≡ true → verdictOf s ≡ done tt
+-- the profiles are numbered 1 to the last
+numbers : List ℕ
+numbers = map (λ q. q .number) profiles
+
+numbered : every (λ p. oneOf p numbers) (run (λ j. j) 1 lastProfile) ≡ true
+unfolding numbers profiles carriers turbos
+numbered = refl
+
+pub listing : (z : Size) → profileListed z ≡ true → Listing z
+unfolding profileListed numbers
+listing z e =
+    let q = both (leb 1 (z .profile)) (leb (z .profile) lastProfile) e in
+    let lo = leb-true 1 (z .profile) (q .0) in
+    let hi = leb-true (z .profile) lastProfile (q .1) in
+    let one = at-each (λ p. oneOf p numbers) (run (λ j. j) 1 lastProfile) numbered (run-mem (λ j. j) 1 lastProfile (z .profile) lo (omega arith)) in
+    let m = Memᴰ·of-map (λ q. q .number) profiles (one-of (z .profile) numbers one) in
+    record { its = m .0; one = m .1; number-is = m .2; agrees = by-member Agrees profiles all-listed (m .1) }
+
+-- bits that pass have a row there
+module _ (q : Profile) (a : Agrees q) (b n : ℕ) (e : bitsListed (size (q .number) b n) ≡ true) where
+  -- with some size in it
+  some-in : (m : ℕ) × List·Memᴰ (size (q .number) b m) (sizesOf q)
+  some-in =
+      let r = Memᴰ·of-map (λ r. r .bits) (q .rows) (a .has-row b n e) in
+      let m = some-of (r .0 .sizes) (at-each (λ r. some (r .sizes)) (q .rows) (a .has-size) (r .1)) in
+      (m .0, subst (λ (b : ℕ). List·Memᴰ (size (q .number) b (m .0)) (sizesOf q)) (r .2) (in-rows (q .number) (q .rows) (r .1) (m .1)))
+
+  -- and with N in it, where N passes
+  stands-in : sizeListed (size (q .number) b n) ≡ true → List·Memᴰ (size (q .number) b n) (sizesOf q)
+  stands-in =
+      let r = Memᴰ·of-map (λ r. r .bits) (q .rows) (a .has-row b n e) in
+      let each = by-member (HasEach (q .number)) (q .rows) (a .has-each) (r .1) in
+      subst (λ (b : ℕ). sizeListed (size (q .number) b n) ≡ true → List·Memᴰ (size (q .number) b n) (sizesOf q)) (r .2)
+      (λ h. in-rows (q .number) (q .rows) (r .1) (each n h))
+
+module _ (z : Size) (p : profileListed z ≡ true) (b : bitsListed z ≡ true) where
+  -- the bits pass for its profile
+  bits-there : bitsListed (size (listing z p .its .number) (z .bits) (z .n)) ≡ true
+  bits-there = subst (λ (p : ℕ). bitsListed (size p (z .bits) (z .n)) ≡ true) (sym (listing z p .number-is)) b
+
+  -- for listed bits of a listed profile some size is listed
+  pub some-listed : (m : ℕ) × List·Memᴰ (size (z .profile) (z .bits) m) listedSizes
+  unfolding listedSizes
+  some-listed =
+      let l = listing z p in
+      let m = some-in (l .its) (l .agrees) (z .bits) (z .n) bits-there in
+      (m .0, subst (λ (p : ℕ). List·Memᴰ (size p (z .bits) (m .0)) listedSizes) (l .number-is) (in-all profiles (l .one) (m .1)))
+
+  -- and N is, where it passes
+  pub passing-listed : sizeListed z ≡ true → List·Memᴰ z listedSizes
+  unfolding listedSizes
+  passing-listed h =
+      let l = listing z p in
+      let there = subst (λ (p : ℕ). sizeListed (size p (z .bits) (z .n)) ≡ true) (sym (l .number-is)) h in
+      subst (λ (p : ℕ). List·Memᴰ (size p (z .bits) (z .n)) listedSizes) (l .number-is)
+      (in-all profiles (l .one) (stands-in (l .its) (l .agrees) (z .bits) (z .n) bits-there there))
+
+-- a listed size passes the three tests
+pub record Passing (z : Size) : Type 0 where
+  pub profile-passes : profileListed z ≡ true
+  pub bits-pass : bitsListed z ≡ true
+  pub size-passes : sizeListed z ≡ true
+
+pub listed-passing : (z : Size) → List·Memᴰ z listedSizes → Passing z
+unfolding listedSizes
+listed-passing z m =
+    let q = of-all profiles m in
+    let p = both (profileListed z) (bitsListed z && sizeListed z) (by-member Agrees profiles all-listed (q .1) .passing (q .2)) in
+    let b = both (bitsListed z) (sizeListed z) (p .1) in
+    record { profile-passes = p .0; bits-pass = b .0; size-passes = b .1 }
+
+-- no line of its size applies to it
+pub listed-clear : (z : Size) → List·Memᴰ z listedSizes → Clear (sizeLines z)
+listed-clear z m = let p = listed-passing z m in (rw (p .profile-passes), (rw (p .bits-pass), (rw (p .size-passes), tt)))
+
+pub clear-listed : (z : Size) → Clear (sizeLines z) → List·Memᴰ z listedSizes
+clear-listed z c = passing-listed z (not-false _ (c .0)) (not-false _ (c .1 .0)) (not-false _ (c .1 .1 .0))
+
+-- so for a set
+pub accepted-clear : (s : Set) → verdictOf s ≡ done tt → Clear (sizeLines (sizeOf s)) × Clear (besideLines s)
 unfolding verdictOf setLines
-accepted s e =
-    let p = both (profileListed s) (bitsListed s && sizeListed s) e in
-    let q = both (bitsListed s) (sizeListed s) (p .1) in
-    simp (p .0, q .0, q .1)
+accepted-clear s e = clear-parts (sizeLines (sizeOf s)) (besideLines s) (done-clear (refusal s) tt (setLines s) tt e .0)
 
--- what acceptance says of a set
-pub record Passed (s : Set) : Type 0 where
-  pub profile-passes : profileListed s ≡ true
-  pub bits-pass : bitsListed s ≡ true
-  pub size-passes : sizeListed s ≡ true
+pub accepted-listed : (s : Set) → verdictOf s ≡ done tt → List·Memᴰ (sizeOf s) listedSizes
+accepted-listed s e = clear-listed (sizeOf s) (accepted-clear s e .0)
 
-pub passed : (s : Set) → verdictOf s ≡ done tt → Passed s
+pub listed-accepted : (s : Set) → List·Memᴰ (sizeOf s) listedSizes → Clear (besideLines s) → verdictOf s ≡ done tt
 unfolding verdictOf setLines
-passed s e =
-    let c = done-clear (refusal s) tt (setLines s) tt e .0 in
-    record { profile-passes = not-false _ (c .0); bits-pass = not-false _ (c .1 .0); size-passes = not-false _ (c .1 .1 .0) }
+listed-accepted s m c =
+    clear-done (refusal s) tt (setLines s) (clear-join (sizeLines (sizeOf s)) (besideLines s) (listed-clear (sizeOf s) m) c)
 
--- every carrier set of the table is accepted: computed, set by set
-carriers-accepted : every accepts (setsOf carriers) ≡ true
-unfolding carriers ofdm ofdma wlan bench profileListed bitsListed sizeListed groupOf
-carriers-accepted = refl
-
--- and every set of the turbo profile
-turbo-accepts : (n : ℕ) → 40 ≤ n → n ≤ 5114 → accepts (set 5 1 n) ≡ true
-unfolding profileListed bitsListed sizeListed
-turbo-accepts n lo hi = simp (le-leb 40 n lo, le-leb n 5114 hi)
-
-turbo-accepted : (s : Set) → List·Memᴰ s turbo → verdictOf s ≡ done tt
-unfolding turbo turboSizes
-turbo-accepted s m =
-    let q = Memᴰ·of-map (λ n. set 5 1 n) turboSizes m in
-    let r = mem-run (λ j. 40 + j) 0 5075 (q .1) in
-    ap verdictOf (sym (q .2)) ∙ accepted (set 5 1 (q .0)) (turbo-accepts (q .0) (omega (arith, r .3)) (omega (arith, r .2, r .3)))
-
-pub listed-accepted : (s : Set) → List·Memᴰ s listedSets → verdictOf s ≡ done tt
-unfolding listedSets
-listed-accepted s m =
-    ⊎-elim (λ l. accepted s (at-each accepts (setsOf carriers) carriers-accepted l)) (turbo-accepted s) (List·Memᴰ·append-cases (setsOf carriers) m)
-
--- an accepted set stands in the table: row by row
-abbrev Stands : ℕ → ℕ → ℕ → Type 0
-Stands p b n = List·Memᴰ (set p b n) listedSets
-
--- it does where its row does and has the size
-stands : {r : Row} → List·Memᴰ r carriers → (n : ℕ) → List·Memᴰ n (r .sizes) → Stands (r .profile) (r .bits) n
-unfolding listedSets
-stands m n l = Memᴰ·append-left turbo (in-rows carriers m l)
-
--- a row by its number in the table
-nth : (k : ℕ) → k < length carriers → List·Memᴰ (getD carriers k (row 0 0 [])) carriers
-nth = mem-at carriers (row 0 0 [])
-
-one : (b n : ℕ) → bitsListed (set 1 b n) ≡ true → sizeListed (set 1 b n) ≡ true → Stands 1 b n
-unfolding bitsListed sizeListed carriers ofdm ofdma wlan bench
-one b n hb =
-    by-member (λ b. sizeListed (set 1 b n) ≡ true → Stands 1 b n) (1 ∷ 2 ∷ 4 ∷ 6 ∷ []) (
-      λ h. stands (nth 0 (omega arith)) n (one-of n (12 ∷ 24 ∷ 48 ∷ 96 ∷ 192 ∷ []) h),
-      (
-        λ h. stands (nth 1 (omega arith)) n (one-of n (24 ∷ 48 ∷ 96 ∷ 192 ∷ 384 ∷ []) h),
-        (
-          λ h. stands (nth 2 (omega arith)) n (one-of n (48 ∷ 96 ∷ 192 ∷ 384 ∷ 768 ∷ []) h),
-          (
-            λ h. stands (nth 3 (omega arith)) n (one-of n (72 ∷ 144 ∷ 288 ∷ 576 ∷ 1152 ∷ []) h),
-            tt,
-          ),
-        ),
-      ),
-    )
-    (one-of b (1 ∷ 2 ∷ 4 ∷ 6 ∷ []) hb)
-
-two : (b n : ℕ) → bitsListed (set 2 b n) ≡ true → sizeListed (set 2 b n) ≡ true → Stands 2 b n
-unfolding bitsListed sizeListed carriers ofdm ofdma wlan bench
-two b n hb =
-    by-member (λ b. sizeListed (set 2 b n) ≡ true → Stands 2 b n) (2 ∷ 4 ∷ 6 ∷ []) (
-      λ h. stands (nth 4 (omega arith)) n (multiple-of 96 576 n (omega arith) h),
-      (
-        λ h. stands (nth 5 (omega arith)) n (multiple-of 192 576 n (omega arith) h),
-        (
-          λ h. stands (nth 6 (omega arith)) n (multiple-of 288 576 n (omega arith) h),
-          tt,
-        ),
-      ),
-    )
-    (one-of b (2 ∷ 4 ∷ 6 ∷ []) hb)
-
-three : (b n : ℕ) → bitsListed (set 3 b n) ≡ true → sizeListed (set 3 b n) ≡ true → Stands 3 b n
-unfolding bitsListed sizeListed carriers ofdm ofdma wlan bench
-three b n hb =
-    by-member (λ b. sizeListed (set 3 b n) ≡ true → Stands 3 b n) (1 ∷ 2 ∷ 4 ∷ 6 ∷ []) (
-      λ h. stands (nth 7 (omega arith)) n (List·Memᴰ·head (eqb-true n 48 h)),
-      (
-        λ h. stands (nth 8 (omega arith)) n (List·Memᴰ·head (eqb-true n 96 h)),
-        (
-          λ h. stands (nth 9 (omega arith)) n (List·Memᴰ·head (eqb-true n 192 h)),
-          (
-            λ h. stands (nth 10 (omega arith)) n (List·Memᴰ·head (eqb-true n 288 h)),
-            tt,
-          ),
-        ),
-      ),
-    )
-    (one-of b (1 ∷ 2 ∷ 4 ∷ 6 ∷ []) hb)
-
-four : (b n : ℕ) → bitsListed (set 4 b n) ≡ true → sizeListed (set 4 b n) ≡ true → Stands 4 b n
-unfolding bitsListed sizeListed groupOf carriers ofdm ofdma wlan bench
-four b n hb =
-    by-member (λ b. sizeListed (set 4 b n) ≡ true → Stands 4 b n) (1 ∷ 2 ∷ 4 ∷ 6 ∷ []) (
-      λ h. stands (nth 11 (omega arith)) n (multiple-of 16 1536 n (omega arith) h),
-      (
-        λ h. stands (nth 12 (omega arith)) n (multiple-of 16 1536 n (omega arith) h),
-        (
-          λ h. stands (nth 13 (omega arith)) n (multiple-of 32 1536 n (omega arith) h),
-          (
-            λ h. stands (nth 14 (omega arith)) n (multiple-of 48 1536 n (omega arith) h),
-            tt,
-          ),
-        ),
-      ),
-    )
-    (one-of b (1 ∷ 2 ∷ 4 ∷ 6 ∷ []) hb)
-
-five : (b n : ℕ) → bitsListed (set 5 b n) ≡ true → sizeListed (set 5 b n) ≡ true → Stands 5 b n
-unfolding bitsListed sizeListed listedSets turbo turboSizes
-five b n hb h =
-    let q = both (leb 40 n) (leb n 5114) h in
-    let lo = leb-true 40 n (q .0) in
-    let hi = leb-true n 5114 (q .1) in
-    let m = Memᴰ·cast {a = n} (omega arith) (run-mem (λ j. 40 + j) 0 5075 (n - 40) (omega arith) (omega arith)) in
-    by-member (λ b. Stands 5 b n) (1 ∷ []) (Memᴰ·append-right (setsOf carriers) (Memᴰ·map (λ n. set 5 1 n) m), tt) (one-of b (1 ∷ []) hb)
-
-pub accepted-listed : (s : Set) → verdictOf s ≡ done tt → List·Memᴰ s listedSets
-unfolding profileListed
-accepted-listed s e =
-    let t = passed s e in
-    let q = both (leb 1 (s .profile)) (leb (s .profile) 5) (t .profile-passes) in
-    let lo = leb-true 1 (s .profile) (q .0) in
-    let hi = leb-true (s .profile) 5 (q .1) in
-    by-member (λ p. bitsListed (set p (s .bits) (s .n)) ≡ true → sizeListed (set p (s .bits) (s .n)) ≡ true → Stands p (s .bits) (s .n))
-    (1 ∷ 2 ∷ 3 ∷ 4 ∷ 5 ∷ [])
-    (one (s .bits) (s .n), (two (s .bits) (s .n), (three (s .bits) (s .n), (four (s .bits) (s .n), (five (s .bits) (s .n), tt)))))
-    (run-mem (λ j. j) 1 5 (s .profile) lo (omega arith))
-    (t .bits-pass) (t .size-passes)
-
--- the bits that are listed are small
-pub bits-small : (s : Set) → bitsListed s ≡ true → (0 < s .bits) × (s .bits < 7)
-unfolding bitsListed
-bits-small s e = let q = both (ltb 0 (s .bits)) (ltb (s .bits) 7) (go (eqb (s .profile) 5) (eqb (s .profile) 2) e) in (ltb-true 0 (s .bits) (q .0), ltb-true (s .bits) 7 (q .1))
-  where
-    small : ℕ → Bool
-    small b = ltb 0 b && ltb b 7
-
-    go : (t u : Bool) → oneOf (s .bits) (cond t (1 ∷ []) (cond u (2 ∷ 4 ∷ 6 ∷ []) (1 ∷ 2 ∷ 4 ∷ 6 ∷ []))) ≡ true → small (s .bits) ≡ true
-    go true u e = at-each small (1 ∷ []) refl (one-of (s .bits) (1 ∷ []) e)
-    go false true e = at-each small (2 ∷ 4 ∷ 6 ∷ []) refl (one-of (s .bits) (2 ∷ 4 ∷ 6 ∷ []) e)
-    go false false e = at-each small (1 ∷ 2 ∷ 4 ∷ 6 ∷ []) refl (one-of (s .bits) (1 ∷ 2 ∷ 4 ∷ 6 ∷ []) e)
+-- a set is accepted exactly when its size is listed and no sentence of what it must have beside it holds
+pub admits : (s : Set) → (List·Memᴰ (sizeOf s) listedSizes × NoneTrue (besideSentences s)) ↔ (verdictOf s ≡ done tt)
+admits s = (
+  λ h. listed-accepted s (h .0) (told-clear (beside-told s) (h .0) .1 (h .1)),
+  λ e. let m = accepted-listed s e in (m, told-clear (beside-told s) m .0 (accepted-clear s e .1)),
+)

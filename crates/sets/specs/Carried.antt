@@ -1,48 +1,54 @@
--- What an accepted set is. Of a carrier profile: a block that the carrier laws hold for, N a positive multiple of d and N/d a multiple of s,
--- computed over the 307 carrier sets of the table. Of the turbo family, which is profile 5: a size from 40 to 5,114. Assumes nothing.
+-- What an accepted set is. Of a carrier profile: a block that the carrier laws hold for, N a positive multiple of d and N/d a multiple of
+-- s, computed over the 307 carrier sizes of the table. Of the turbo family: a size from 40 to 5,114.
 use mathlib.Core.Path.{_≡_, refl, sym, ap, _∙_}
 use mathlib.Core.Bool.{Bool, true, false, cond, _&&_, false≢true}
 use mathlib.Core.Logic.{_≢_, ⊎-elim}
-use mathlib.Core.List.{List·Memᴰ·append-cases, Memᴰ·of-map}
-use Prim.Native.Nat.{ℕ, _+_, _*_, _/_, _%_, _≤_}
+use mathlib.Core.List.{List·Memᴰ, append-nil, Memᴰ·of-map}
+use Prim.Native.Nat.{ℕ, _*_, _/_, _%_, _≤_}
 use native.Mathlib.Nat.{div-add-mod}
 use native.Mathlib.Omega.{arith}
 use lib.Dec.{leb, ltb, eqb}
 use borrow.Author.Tests.{leb-true, ltb-true, eqb-true, eq-eqb, ne-eqb}
 use Rattle.laws.specs.Outcome.{done}
-use Rattle.laws.specs.Run.{mem-run}
 use Rattle.laws.specs.Members.{both, every, at-each}
 use Rattle.laws.specs.Sized.{Sized}
 use Rattle.sets.specs.declared.Set.{Set}
 use Rattle.sets.specs.declared.Family.{Family}
 use Rattle.sets.specs.declared.Family.the-variants.{Carrier, Turbo}
-use Rattle.sets.specs.Profiles.{familyOf, rowsOf, groupOf}
+use Rattle.sets.specs.Size.{Size, size, sizeOf, allSizes, either-all}
+use Rattle.sets.specs.Profiles.{familyBy, familyOf, rowsBy, rowsOf, groupBy, groupOf}
+use Rattle.sets.specs.Profiles.{turboSizes, carriers, turbos, profiles, listedSizes}
+use Rattle.sets.specs.Listed.{turbo-range}
 use Rattle.sets.specs.Verdict.{verdictOf}
-use Rattle.sets.specs.Listed.{set, setsOf, ofdm, ofdma, wlan, bench, carriers, turboSizes, turbo, listedSets}
 use Rattle.sets.specs.Admits.{accepted-listed}
 
 pub record Carried (s : Set) : Type 0 where
   pub sized : Sized (rowsOf s) (s .n) (groupOf s)
   pub small : s .n ≤ 1536
 
--- the same as a test
-divides : Set → Bool
-divides s = ltb 0 (rowsOf s) && (ltb 0 (groupOf s) && (ltb 0 (s .n) && (eqb (s .n % (rowsOf s * groupOf s)) 0 && leb (s .n) 1536)))
-
 isCarrier : Family → Bool
 isCarrier Carrier = true
 isCarrier Turbo = false
 
-all-divide : every divides (setsOf carriers) ≡ true
-unfolding divides carriers ofdm ofdma wlan bench rowsOf groupOf
+-- the same of a size, as a test
+divides : Size → Bool
+divides z =
+    ltb 0 (rowsBy (z .profile))
+    && (ltb 0 (groupBy (z .bits)) && (ltb 0 (z .n) && (eqb (z .n % (rowsBy (z .profile) * groupBy (z .bits))) 0 && leb (z .n) 1536)))
+
+all-divide : every divides (allSizes carriers) ≡ true
+unfolding divides carriers
 all-divide = refl
 
-all-carriers : every (λ s. isCarrier (familyOf s)) (setsOf carriers) ≡ true
-unfolding isCarrier familyOf carriers ofdm ofdma wlan bench
+ofCarrier : Size → Bool
+ofCarrier z = isCarrier (familyBy (z .profile))
+
+all-carriers : every ofCarrier (allSizes carriers) ≡ true
+unfolding isCarrier ofCarrier carriers
 all-carriers = refl
 
-carried-by : (s : Set) → divides s ≡ true → Carried s
-unfolding divides
+carried-by : (s : Set) → divides (sizeOf s) ≡ true → Carried s
+unfolding divides rowsOf groupOf
 carried-by s e =
     let p = both (ltb 0 (rowsOf s)) _ e in
     let q = both (ltb 0 (groupOf s)) _ (p .1) in
@@ -76,25 +82,28 @@ turbo-five s e = go (eqb (s .profile) 5) refl e
     go true q e = eqb-true (s .profile) 5 q
     go false q e = let z : _≡_ {A = ℕ} 0 1 = cc in absurd (omega arith)
 
-pub carried : (s : Set) → verdictOf s ≡ done tt → familyOf s ≡ Carrier → Carried s
-unfolding listedSets turbo isCarrier familyOf
-carried s e c =
-    ⊎-elim (λ m. carried-by s (at-each divides (setsOf carriers) all-divide m))
-    (λ m.
-    let five : s .profile ≡ 5 = sym (ap (λ (x : Set). x .profile) (Memᴰ·of-map (λ n. set 5 1 n) turboSizes m .2)) in
-    absurd (false≢true (ap isCarrier (sym (five-turbo s five) ∙ c))))
-    (List·Memᴰ·append-cases (setsOf carriers) (accepted-listed s e))
+-- a turbo size
+turbo-one : {z : Size} → List·Memᴰ z (allSizes turbos) → (z .profile ≡ 5) × ((40 ≤ z .n) × (z .n ≤ 5114))
+unfolding turbos
+turbo-one {z} m =
+    let q = Memᴰ·of-map (size 5 1) turboSizes (simp append-nil at m) in
+    let same : z .n ≡ q .0 = sym (ap (λ (x : Size). x .n) (q .2)) in
+    let r = turbo-range (q .1) in
+    (sym (ap (λ (x : Size). x .profile) (q .2)), (omega (arith, r .0), omega (arith, r .1)))
 
-pub turbo-size : (s : Set) → verdictOf s ≡ done tt → familyOf s ≡ Turbo → (40 ≤ s .n) × (s .n ≤ 5114)
-unfolding listedSets turbo turboSizes isCarrier
-turbo-size s e t =
-    ⊎-elim (λ m. absurd (false≢true (sym (ap isCarrier t) ∙ at-each (λ s. isCarrier (familyOf s)) (setsOf carriers) all-carriers m)))
-    (λ m.
-    let q = Memᴰ·of-map (λ n. set 5 1 n) turboSizes m in
-    let r = mem-run (λ j. 40 + j) 0 5075 (q .1) in
-    let same : s .n ≡ q .0 = sym (ap (λ (x : Set). x .n) (q .2)) in
-    (omega (arith, r .3), omega (arith, r .2, r .3)))
-    (List·Memᴰ·append-cases (setsOf carriers) (accepted-listed s e))
+module _ (s : Set) (e : verdictOf s ≡ done tt) where
+  pub carried : familyOf s ≡ Carrier → Carried s
+  unfolding listedSizes profiles isCarrier
+  carried c =
+      ⊎-elim (λ m. carried-by s (at-each divides (allSizes carriers) all-divide m))
+      (λ m. absurd (false≢true (ap isCarrier (sym (five-turbo s (turbo-one m .0)) ∙ c))))
+      (either-all carriers turbos (accepted-listed s e))
+
+  pub turbo-size : familyOf s ≡ Turbo → (40 ≤ s .n) × (s .n ≤ 5114)
+  unfolding listedSizes profiles isCarrier ofCarrier familyOf
+  turbo-size t =
+      ⊎-elim (λ m. absurd (false≢true (sym (ap isCarrier t) ∙ at-each ofCarrier (allSizes carriers) all-carriers m)))
+      (λ m. turbo-one m .1) (either-all carriers turbos (accepted-listed s e))
 
 -- no listed size is above 6,144
 pub sizes-small : (s : Set) → verdictOf s ≡ done tt → s .n ≤ 6144

@@ -1,104 +1,157 @@
--- Document 01's table "Profiles and what each admits", counted out: for each profile and bits the sizes that go with them. No
--- remainder is taken anywhere. Assumes nothing.
-use mathlib.Core.Path.{_≡_, refl, _∙_}
-use mathlib.Core.Logic.{⊎-elim}
-use mathlib.Core.List.{List, [], _∷_, _++_, map, List·Memᴰ, List·Memᴰ·not-nil, List·Memᴰ·cases-cons, Memᴰ·append-left, Memᴰ·append-right, Memᴰ·map}
-use Prim.Native.Nat.{ℕ, _+_, _*_}
+-- The tests of a size agree with the table as it is counted out, profile by profile; how many sizes each profile has; and what the code's
+-- proofs need of the tests. Rests on Profiles.
+use mathlib.Core.Path.{_≡_, refl, sym, ap, _∙_}
+use mathlib.Core.Bool.{Bool, true, false, cond, _&&_}
+use mathlib.Core.Logic.{_≢_}
+use mathlib.Core.List.{List, [], _∷_, map, append-nil, List·Memᴰ, List·Memᴰ·head, List·Memᴰ·tail, List·Memᴰ·eq-of-singleton}
+use mathlib.Core.List.{Memᴰ·cast, Memᴰ·of-map}
+use Prim.Native.Nat.{ℕ, max, _+_, _-_, _*_, _/_, _≤_, _<_}
+use native.Mathlib.Omega.{arith}
+use lib.Dec.{leb, ltb, eqb}
 use lib.ListN.{length, length-map}
-use Rattle.laws.specs.Run.{run, length-run}
+use borrow.Author.Tests.{le-leb, leb-true, ltb-true, eqb-true, ne-eqb}
+use Rattle.laws.specs.Run.{length-run, run-mem, mem-run}
+use Rattle.laws.specs.Members.{both, every, at-each, All, oneOf, one-of, multiple, multiple-of}
 use Rattle.sets.specs.declared.Set.{Set}
+use Rattle.sets.specs.declared.Family.{Family}
+use Rattle.sets.specs.declared.Family.the-variants.{Carrier, Turbo}
+use Rattle.sets.specs.Size.{Size, size, sizeOf, some, Row, Profile, multiples, sizesOf}
+use Rattle.sets.specs.Profiles.{ofdm, ofdma, wlan, bench, turboSizes, turbo, carriers, turbos, profiles}
+use Rattle.sets.specs.Profiles.{familyBy, familyOf, groupBy, groupOf, profileListed, bitsBy, bitsListed, carrierListed, sizeBy, sizeListed}
 
--- a row of the table: a profile, its bits, and the sizes
-pub record Row : Type 0 where
-  pub profile : ℕ
-  pub bits : ℕ
-  pub sizes : List ℕ
+-- all three pass
+abbrev pub passes : Size → Bool
+passes z = profileListed z && (bitsListed z && sizeListed z)
 
-abbrev pub row : ℕ → ℕ → List ℕ → Row
-row p b ns = record { profile = p; bits = b; sizes = ns }
+-- a row has each size that passes with its bits
+abbrev pub HasEach : ℕ → Row → Type 0
+HasEach p r = (n : ℕ) → sizeListed (size p (r .bits) n) ≡ true → List·Memᴰ n (r .sizes)
 
-abbrev pub set : ℕ → ℕ → ℕ → Set
-set p b n = record { profile = p; bits = b; n = n }
+-- the tests agree with a profile as it is counted out: they pass its sizes; bits that pass have a row; each row has a size, and has each
+-- that passes
+pub record Agrees (q : Profile) : Type 0 where
+  pub passing : {z : Size} → List·Memᴰ z (sizesOf q) → passes z ≡ true
+  pub has-row : (b n : ℕ) → bitsListed (size (q .number) b n) ≡ true → List·Memᴰ b (map (λ r. r .bits) (q .rows))
+  pub has-size : every (λ r. some (r .sizes)) (q .rows) ≡ true
+  pub has-each : All (HasEach (q .number)) (q .rows)
 
--- the sets of some rows
-abbrev pub setsOf : List Row → List Set
-setsOf [] = []
-setsOf (r ∷ rs) = map (λ n. set (r .profile) (r .bits) n) (r .sizes) ++ setsOf rs
+-- rows of one size, and of the multiples of u up to m
+only : (m n : ℕ) → eqb n m ≡ true → List·Memᴰ n (m ∷ [])
+only m n e = List·Memᴰ·head (eqb-true n m e)
 
--- u, 2u, 3u, .., m of them
-abbrev pub multiples : ℕ → ℕ → List ℕ
-multiples u m = run (λ j. u * j) 1 m
+upto : (m u : ℕ) → 0 < u → (n : ℕ) → multiple u m n ≡ true → List·Memᴰ n (multiples u (m / u))
+upto m u h n = multiple-of u m n h
 
--- 1, IEEE 802.16 OFDM: for w in 1, 2, 4, 8, 16: bits 1: 12w; 2: 24w; 4: 48w; 6: 72w
-unfoldable pub ofdm : List Row
-ofdm =
-    row 1 1 (12 ∷ 24 ∷ 48 ∷ 96 ∷ 192 ∷ [])
-    ∷ row 1 2 (24 ∷ 48 ∷ 96 ∷ 192 ∷ 384 ∷ [])
-    ∷ row 1 4 (48 ∷ 96 ∷ 192 ∷ 384 ∷ 768 ∷ [])
-    ∷ row 1 6 (72 ∷ 144 ∷ 288 ∷ 576 ∷ 1152 ∷ [])
-    ∷ []
+ofdm-listed : Agrees ofdm
+unfolding profileListed bitsListed sizeListed carrierListed
+ofdm-listed = record {
+  passing = at-each passes (sizesOf ofdm) refl;
+  has-row = λ b n. one-of b (1 ∷ 2 ∷ 4 ∷ 6 ∷ []);
+  has-size = refl;
+  has-each = (λ n. one-of n _, (λ n. one-of n _, (λ n. one-of n _, (λ n. one-of n _, tt))));
+}
 
--- 2, IEEE 802.16 OFDMA, house limit: bits 2, 4, 6; N a positive multiple of 48·bits, at most 576
-unfoldable pub ofdma : List Row
-ofdma =
-    row 2 2 (96 ∷ 192 ∷ 288 ∷ 384 ∷ 480 ∷ 576 ∷ [])
-    ∷ row 2 4 (192 ∷ 384 ∷ 576 ∷ [])
-    ∷ row 2 6 (288 ∷ 576 ∷ [])
-    ∷ []
+ofdma-listed : Agrees ofdma
+unfolding profileListed bitsListed sizeListed carrierListed
+ofdma-listed = record {
+  passing = at-each passes (sizesOf ofdma) refl;
+  has-row = λ b n. one-of b (2 ∷ 4 ∷ 6 ∷ []);
+  has-size = refl;
+  has-each = (upto 576 96 (omega arith), (upto 576 192 (omega arith), (upto 576 288 (omega arith), tt)));
+}
 
--- 3, IEEE 802.11a: bits 1: 48; 2: 96; 4: 192; 6: 288
-unfoldable pub wlan : List Row
-wlan =
-    row 3 1 (48 ∷ [])
-    ∷ row 3 2 (96 ∷ [])
-    ∷ row 3 4 (192 ∷ [])
-    ∷ row 3 6 (288 ∷ [])
-    ∷ []
+wlan-listed : Agrees wlan
+unfolding profileListed bitsListed sizeListed carrierListed
+wlan-listed = record {
+  passing = at-each passes (sizesOf wlan) refl;
+  has-row = λ b n. one-of b (1 ∷ 2 ∷ 4 ∷ 6 ∷ []);
+  has-size = refl;
+  has-each = (only 48, (only 96, (only 192, (only 288, tt))));
+}
 
--- 4, bench: bits 1, 2, 4, 6; N a positive multiple of 16·s, at most 1,536
-unfoldable pub bench : List Row
-bench =
-    row 4 1 (multiples 16 96)
-    ∷ row 4 2 (multiples 16 96)
-    ∷ row 4 4 (multiples 32 48)
-    ∷ row 4 6 (multiples 48 32)
-    ∷ []
+bench-listed : Agrees bench
+unfolding profileListed bitsListed sizeListed carrierListed
+bench-listed = record {
+  passing = at-each passes (sizesOf bench) refl;
+  has-row = λ b n. one-of b (1 ∷ 2 ∷ 4 ∷ 6 ∷ []);
+  has-size = refl;
+  has-each = (upto 1536 16 (omega arith), (upto 1536 16 (omega arith), (upto 1536 32 (omega arith), (upto 1536 48 (omega arith), tt))));
+}
 
--- the carrier profiles
-unfoldable pub carriers : List Row
-carriers = ofdm ++ ofdma ++ wlan ++ bench
+-- the sizes of the turbo profile are 40 to 5,114
+pub turbo-range : {n : ℕ} → List·Memᴰ n turboSizes → (40 ≤ n) × (n ≤ 5114)
+unfolding turboSizes
+turbo-range m = let r = mem-run (λ j. 40 + j) 0 5075 m in (omega (arith, r .3), omega (arith, r .2, r .3))
 
--- 5, WCDMA turbo, 3GPP TS 25.212: bits 1; N from 40 to 5,114
-unfoldable pub turboSizes : List ℕ
-turboSizes = run (λ j. 40 + j) 0 5075
+range-turbo : (n : ℕ) → 40 ≤ n → n ≤ 5114 → List·Memᴰ n turboSizes
+unfolding turboSizes
+range-turbo n lo hi = Memᴰ·cast {a = n} (omega arith) (run-mem (λ j. 40 + j) 0 5075 (n - 40) (omega arith) (omega arith))
 
-unfoldable pub turbo : List Set
-turbo = map (λ n. set 5 1 n) turboSizes
+turbo-listed : Agrees turbo
+unfolding profileListed bitsListed sizeListed turboSizes
+turbo-listed = record {
+  passing = passing;
+  has-row = λ b n. one-of b (1 ∷ []);
+  has-size = refl;
+  has-each = (λ n e. let q = both (leb 40 n) (leb n 5114) e in range-turbo n (leb-true 40 n (q .0)) (leb-true n 5114 (q .1)), tt);
+}
+  where
+    passing : {z : Size} → List·Memᴰ z (sizesOf turbo) → passes z ≡ true
+    passing {z} m =
+        let q = Memᴰ·of-map (size 5 1) turboSizes (rw append-nil at m) in
+        let r = turbo-range (q .1) in
+        ap passes (sym (q .2)) ∙ simp (le-leb 40 (q .0) (r .0), le-leb (q .0) 5114 (r .1))
 
-unfoldable pub listedSets : List Set
-listedSets = setsOf carriers ++ turbo
+pub all-listed : All Agrees profiles
+unfolding profiles carriers turbos
+all-listed = (ofdm-listed, (ofdma-listed, (wlan-listed, (bench-listed, (turbo-listed, tt)))))
 
--- how many sets each profile has
+-- how many sizes each profile has
 pub record Counts : Type 0 where
-  pub ofdm-has : length (setsOf ofdm) ≡ 20
-  pub ofdma-has : length (setsOf ofdma) ≡ 11
-  pub wlan-has : length (setsOf wlan) ≡ 4
-  pub bench-has : length (setsOf bench) ≡ 272
-  pub turbo-has : length turbo ≡ 5075
+  pub ofdm-has : length (sizesOf ofdm) ≡ 20
+  pub ofdma-has : length (sizesOf ofdma) ≡ 11
+  pub wlan-has : length (sizesOf wlan) ≡ 4
+  pub bench-has : length (sizesOf bench) ≡ 272
+  pub turbo-has : length (sizesOf turbo) ≡ 5075
 
-length-turbo : length turbo ≡ 5075
-unfolding turbo turboSizes
-length-turbo = length-map (run (λ j. 40 + j) 0 5075) (λ n. set 5 1 n) ∙ length-run (λ j. 40 + j) 0 5075
+length-turbo : length (sizesOf turbo) ≡ 5075
+unfolding turboSizes
+length-turbo = ap length (append-nil (map (size 5 1) turboSizes)) ∙ length-map turboSizes (size 5 1) ∙ length-run (λ j. 40 + j) 0 5075
 
 pub counts : Counts
-unfolding ofdm ofdma wlan bench
 counts = record { ofdm-has = refl; ofdma-has = refl; wlan-has = refl; bench-has = refl; turbo-has = length-turbo }
 
--- a row's profile and bits with one of its sizes stand in the table
-pub in-rows : (rs : List Row) {r : Row} {n : ℕ} → List·Memᴰ r rs → List·Memᴰ n (r .sizes) → List·Memᴰ (set (r .profile) (r .bits) n) (setsOf rs)
-in-rows [] m h = absurd (List·Memᴰ·not-nil m)
-in-rows (q ∷ rs) {r} {n} m h =
-    ⊎-elim here (λ l. Memᴰ·append-right (map (λ k. set (q .profile) (q .bits) k) (q .sizes)) (in-rows rs l h)) (List·Memᴰ·cases-cons m)
+-- the tests of bits and N, by the family of a set
+pub bits-by : (s : Set) {f : Family} → s .profile ≢ 2 → familyOf s ≡ f → bitsListed (sizeOf s) ≡ oneOf (s .bits) (bitsBy f)
+unfolding bitsListed familyOf
+bits-by s n e = rw (ne-eqb (s .profile) 2 n) (ap (λ (f : Family). oneOf (s .bits) (bitsBy f)) e)
+
+pub size-by : (s : Set) {f : Family} → familyOf s ≡ f → sizeListed (sizeOf s) ≡ sizeBy f (sizeOf s)
+unfolding sizeListed familyOf
+size-by s e = ap (λ (f : Family). sizeBy f (sizeOf s)) e
+
+-- of a carrier profile that is none of 1, 2, 3: that of 4
+pub bench-by : (s : Set) → s .profile ≢ 1 → s .profile ≢ 2 → s .profile ≢ 3
+    → carrierListed (sizeOf s) ≡ multiple (16 * groupOf s) 1536 (s .n)
+unfolding carrierListed groupOf
+bench-by s a b c = rw (ne-eqb (s .profile) 1 a, ne-eqb (s .profile) 2 b, ne-eqb (s .profile) 3 c)
+
+-- the bits that are listed are among 1, 2, 4, 6
+bits-among : (z : Size) → bitsListed z ≡ true → List·Memᴰ (z .bits) (1 ∷ 2 ∷ 4 ∷ 6 ∷ [])
+unfolding bitsListed
+bits-among z e = go (eqb (z .profile) 2) (familyBy (z .profile)) e
   where
-    here : r ≡ q → List·Memᴰ (set (r .profile) (r .bits) n) (setsOf (q ∷ rs))
-    here e = rw (← e) (Memᴰ·append-left (setsOf rs) (Memᴰ·map (λ k. set (r .profile) (r .bits) k) h))
+    go : (t : Bool) (f : Family) → oneOf (z .bits) (cond t (2 ∷ 4 ∷ 6 ∷ []) (bitsBy f)) ≡ true → List·Memᴰ (z .bits) (1 ∷ 2 ∷ 4 ∷ 6 ∷ [])
+    go true f e = List·Memᴰ·tail (one-of (z .bits) (2 ∷ 4 ∷ 6 ∷ []) e)
+    go false Carrier e = one-of (z .bits) (1 ∷ 2 ∷ 4 ∷ 6 ∷ []) e
+    go false Turbo e = List·Memᴰ·head (List·Memᴰ·eq-of-singleton (one-of (z .bits) (1 ∷ []) e))
+
+-- so they are small, and s is what IEEE 802.11 has, max(N_BPSC/2, 1)
+pub bits-small : (z : Size) → bitsListed z ≡ true → (0 < z .bits) × (z .bits < 7)
+bits-small z e =
+    let q = both (ltb 0 (z .bits)) (ltb (z .bits) 7) (at-each (λ b. ltb 0 b && ltb b 7) (1 ∷ 2 ∷ 4 ∷ 6 ∷ []) refl (bits-among z e)) in
+    (ltb-true 0 (z .bits) (q .0), ltb-true (z .bits) 7 (q .1))
+
+pub group-standard : (s : Set) → bitsListed (sizeOf s) ≡ true → groupOf s ≡ max (s .bits / 2) 1
+unfolding groupOf
+group-standard s e = eqb-true _ _ (at-each (λ b. eqb (groupBy b) (max (b / 2) 1)) (1 ∷ 2 ∷ 4 ∷ 6 ∷ []) refl (bits-among (sizeOf s) e))

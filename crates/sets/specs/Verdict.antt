@@ -1,23 +1,27 @@
--- The test of a set: refusals 1, 2 and 3 of document 01, in that order, and nothing more. Assumes nothing.
+-- The test of a set: refusals 1, 2 and 3 of document 01, which are of its size, and then what it must have beside it (specs/Beside.antt).
 use Prim.Native.Nat.{ℕ}
 use mathlib.Core.Bool.{not}
-use mathlib.Core.List.{List, [], _∷_}
-use mathlib.Core.Path.{_≡_, refl, ap}
-use native.Mathlib.Omega.{arith}
-use Rattle.laws.specs.Outcome.{Outcome, done, refused, Line, line, judged}
+use mathlib.Core.List.{List, [], _∷_, _++_}
+use mathlib.Core.Path.{_≡_, refl}
+use Rattle.laws.specs.Outcome.{Outcome, done, refused, apart, Line, line, judged}
 use Rattle.sets.specs.declared.Set.{Set}
 use Rattle.sets.specs.declared.Refusal.{Refusal}
 use Rattle.sets.specs.declared.Verdict.{Verdict}
 use Rattle.sets.specs.declared.Verdict.the-variants.{Accepted, Refused}
+use Rattle.sets.specs.Size.{Size, sizeOf}
 use Rattle.sets.specs.Profiles.{profileListed, bitsListed, sizeListed}
+use Rattle.sets.specs.Beside.{besideLines}
 
 -- 1: the profile isn't 1 to 5. 2: the bits aren't listed for the profile. 3: N isn't listed for that profile and those bits
-unfoldable pub setLines : Set → List Line
-setLines s =
-    line 1 (not (profileListed s))
-    ∷ line 2 (not (bitsListed s))
-    ∷ line 3 (not (sizeListed s))
+abbrev pub sizeLines : Size → List Line
+sizeLines z =
+    line 1 (not (profileListed z))
+    ∷ line 2 (not (bitsListed z))
+    ∷ line 3 (not (sizeListed z))
     ∷ []
+
+unfoldable pub setLines : Set → List Line
+setLines s = sizeLines (sizeOf s) ++ besideLines s
 
 -- what a refusal of a set carries: its number alone. It is given the set, so that more can be said of it in one place
 unfoldable pub refusal : Set → ℕ → Refusal
@@ -39,7 +43,12 @@ refusal-number s k = refl
 
 -- two answers that say the same are the same
 pub verdicts-apart : (a b : Verdict) → sayVerdict a ≡ sayVerdict b → a ≡ b
-verdicts-apart Accepted Accepted e = refl
-verdicts-apart Accepted (Refused y) e = let z : _≡_ {A = ℕ} 0 1 = cc in absurd (omega arith)
-verdicts-apart (Refused x) Accepted e = let z : _≡_ {A = ℕ} 0 1 = cc in absurd (omega arith)
-verdicts-apart (Refused x) (Refused y) e = let q : x ≡ y = cc in ap Refused q
+verdicts-apart = apart sayVerdict read same
+  where
+    read : Outcome Refusal (Unit {0}) → Verdict
+    read (done u) = Accepted
+    read (refused x) = Refused x
+
+    same : (a : Verdict) → read (sayVerdict a) ≡ a
+    same Accepted = refl
+    same (Refused x) = refl

@@ -2,7 +2,8 @@
 ghost use mathlib.Core.Path.{_≡_};
 ghost use Prim.Native.Nat.{_<_};
 ghost use Rattle.laws.specs.Members.{multiple};
-ghost use Rattle.sets.specs.Profiles.{familyOf, rowsOf, groupOf, profileListed, bitsListed, sizeListed};
+ghost use Rattle.sets.specs.Size.{sizeOf};
+ghost use Rattle.sets.specs.Profiles.{familyOf, rowsOf, groupOf, profileListed, bitsListed, carrierListed, sizeListed};
 ghost use Rattle.sets.specs.Verdict.{refusal, sayVerdict, verdictOf};
 
 // A profile of document 01, bits per carrier, and the block's size N. Any numbers may be given.
@@ -70,24 +71,24 @@ pub fn refusal_of(set: Set, number: u32) -> Refusal
 }
 
 fn profile_listed(set: Set) -> bool
-    ensures { λ r. ⌜ r ≡ profileListed set ⌝ }
+    ensures { λ r. ⌜ r ≡ profileListed (sizeOf set) ⌝ }
 {
     let p = set.profile;
     (1 <= p) & (p <= 5)
 }
 
 fn bits_listed(set: Set) -> bool
-    ensures { λ r. ⌜ r ≡ bitsListed set ⌝ }
+    ensures { λ r. ⌜ r ≡ bitsListed (sizeOf set) ⌝ }
 {
-    let p = set.profile;
     let b = set.bits;
-    if p == 5 {
-        return b == 1;
-    }
-    if p == 2 {
+    if set.profile == 2 {
         return (b == 2) | ((b == 4) | (b == 6));
     }
-    (b == 1) | ((b == 2) | ((b == 4) | (b == 6)))
+    let family = family_of(set);
+    match family {
+        Family::Carrier => (b == 1) | ((b == 2) | ((b == 4) | (b == 6))),
+        Family::Turbo => b == 1,
+    }
 }
 
 // Whether n is a positive multiple of u, at most m.
@@ -98,10 +99,10 @@ fn multiple_of(u: u32, m: u32, n: u32) -> bool
     (0 < n) & ((n <= m) & (n % u == 0))
 }
 
-// The bits are listed, so that no product wraps.
-fn size_listed(set: Set) -> bool
+// The size of a carrier profile. The bits are listed, so that no product wraps.
+fn carrier_listed(set: Set) -> bool
     requires { ⌜ (0 < set .bits) × (set .bits < 7) ⌝ }
-    ensures { λ r. ⌜ r ≡ sizeListed set ⌝ }
+    ensures { λ r. ⌜ r ≡ carrierListed (sizeOf set) ⌝ }
 {
     let p = set.profile;
     let b = set.bits;
@@ -115,14 +116,24 @@ fn size_listed(set: Set) -> bool
     if p == 3 {
         return n == 48 * b;
     }
-    if p == 4 {
-        let unit = 16 * group_of(set);
-        return multiple_of(unit, 1536, n);
-    }
-    (40 <= n) & (n <= 5114)
+    let unit = 16 * group_of(set);
+    multiple_of(unit, 1536, n)
 }
 
-// The test of a parameter set: 1, 2, 3, in that order, and nothing more. (`verdicts-apart` in specs/Verdict.antt: what is said leaves one answer.)
+fn size_listed(set: Set) -> bool
+    requires { ⌜ (0 < set .bits) × (set .bits < 7) ⌝ }
+    ensures { λ r. ⌜ r ≡ sizeListed (sizeOf set) ⌝ }
+{
+    let n = set.n;
+    let family = family_of(set);
+    match family {
+        Family::Carrier => carrier_listed(set),
+        Family::Turbo => (40 <= n) & (n <= 5114),
+    }
+}
+
+// The test of a parameter set: 1, 2, 3, in that order, and nothing more. (`verdicts-apart` in specs/Verdict.antt: what is said leaves one
+// answer.)
 pub fn test(set: Set) -> Verdict
     ensures { λ r. ⌜ sayVerdict r ≡ verdictOf set ⌝ }
 {

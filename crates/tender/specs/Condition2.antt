@@ -10,12 +10,15 @@ use lib.ListN.{length, getD}
 use Rattle.laws.specs.Outcome.{done}
 use Rattle.laws.specs.Perm.{Perm}
 use Rattle.laws.specs.Sized.{Sized}
+use Rattle.laws.specs.Told.{NoneTrue}
 use Rattle.laws.specs.Walk.{Rule}
 use Rattle.sets.specs.declared.Set.{Set}
-use Rattle.sets.specs.Profiles.{rowsOf, groupOf}
+use Rattle.sets.specs.Size.{sizeOf, sizesOf}
+use Rattle.sets.specs.Profiles.{rowsOf, groupOf, ofdm, ofdma, wlan, bench, turbo, listedSizes}
+use Rattle.sets.specs.Listed.{counts}
+use Rattle.sets.specs.Beside.{besideSentences}
 use Rattle.sets.specs.Verdict.{verdictOf}
-use Rattle.sets.specs.Listed.{setsOf, ofdm, ofdma, wlan, bench, turbo, listedSets, counts}
-use Rattle.sets.specs.Admits.{listed-accepted, accepted-listed}
+use Rattle.sets.specs.Admits as admitted
 use Rattle.sets.specs.Carried.{five-turbo, other-carrier}
 use Rattle.carrier.specs.Formula.{carrierL, carrierM}
 use Rattle.carrier.specs.Once.{carrier-once}
@@ -25,13 +28,15 @@ use Rattle.walks.specs.Lists as lists
 use Rattle.blocks.specs.Answer.{movedOf, interleaved, deinterleaved}
 use Rattle.blocks.specs.Laws as moves
 
--- "Exactly the listed parameter sets are accepted": the test of a set says accepted if and only if the set stands in document 01's table,
--- counted out set by set ..
-pub admits : (s : Set) → List·Memᴰ s listedSets ↔ (verdictOf s ≡ done tt)
-admits s = (listed-accepted s, accepted-listed s)
+-- "Exactly the listed parameter sets are accepted": the test of a set says accepted if and only if its size, which is its profile, bits and N,
+-- stands in document 01's table, counted out size by size, and no sentence of what a set must have beside it holds. (Crate sets,
+-- specs/Beside.antt: it need have nothing.) The table ..
+pub admits : (s : Set) → (List·Memᴰ (sizeOf s) listedSizes × NoneTrue (besideSentences s)) ↔ (verdictOf s ≡ done tt)
+admits s = admitted.admits s
 
--- .. which has 20, 11, 4, 272 and 5,075 entries for profiles 1 to 5
-pub listed-counts : (length (setsOf ofdm) ≡ 20) × (length (setsOf ofdma) ≡ 11) × (length (setsOf wlan) ≡ 4) × (length (setsOf bench) ≡ 272) × (length turbo ≡ 5075)
+-- .. has 20, 11, 4, 272 and 5,075 sizes for profiles 1 to 5
+pub listed-counts : (length (sizesOf ofdm) ≡ 20) × (length (sizesOf ofdma) ≡ 11) × (length (sizesOf wlan) ≡ 4) × (length (sizesOf bench) ≡ 272)
+    × (length (sizesOf turbo) ≡ 5075)
 listed-counts = (counts .ofdm-has, counts .ofdma-has, counts .wlan-has, counts .bench-has, counts .turbo-has)
 
 -- L: output t holds input L(t). M: input k goes to output M(k) (crate walks, specs/Rules.antt, by family);

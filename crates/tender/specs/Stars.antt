@@ -6,6 +6,7 @@ use mathlib.Core.List.{List, [], _∷_}
 use mathlib.Core.Path.{_≡_, refl, ap}
 use native.Mathlib.Omega.{arith}
 use lib.ListN.{length, take, drop}
+use Rattle.laws.specs.Euclid.{gcdIn, gcd}
 use Rattle.laws.specs.Keep.{keep, padding}
 use Rattle.laws.specs.Members.{All}
 use Rattle.laws.specs.Once.{inside}
@@ -14,7 +15,7 @@ use Rattle.sets.specs.Profiles.{familyOf, rowsOf, groupOf}
 use Rattle.carrier.specs.Formula.{firstStep, secondStep, carrierM, backStep, lastStep, carrierL}
 use Rattle.wcdma_plan.specs.Rectangle.{rows, primes, firstPrime, prime, colsOf, cols, cells}
 use Rattle.wcdma_plan.specs.Powers.{power, firstOne, generates, rootFrom, root}
-use Rattle.wcdma_plan.specs.Numbers.{gcdIn, gcd, noDivisor, isPrime, passes, nextIn, nextQ, qOf}
+use Rattle.wcdma_plan.specs.Numbers.{noDivisor, isPrime, passes, nextIn, nextQ, qOf}
 use Rattle.wcdma_plan.specs.Orders.{rowOrders, whichOrder, orderOf, rowAt}
 use Rattle.wcdma.specs.Turbo.{entry, address, padCells}
 use Rattle.wcdma.specs.Pads.{cells-are}

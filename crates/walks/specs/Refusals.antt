@@ -1,21 +1,22 @@
 -- The refusals of the calls on a set in the sentences of document 01, in its order: 1, 2, 3, 8, 4, 9. A number is said exactly when its
 -- sentence is the first that holds, and then the slice is what it was.
 use Prim.Native.Nat.{ℕ, _≤_, _<_}
-use mathlib.Core.Bool.{true, false, not, true≢false}
+use mathlib.Core.Bool.{true, false, true≢false}
 use mathlib.Core.List.{List, [], _∷_, _++_}
 use mathlib.Core.Logic.{_↔_}
 use mathlib.Core.Path.{_≡_, refl, sym, ap, ap₂, _∙_}
 use Rattle.laws.specs.declared.Way.{Way}
 use Rattle.laws.specs.declared.Way.the-variants.{Interleaver, Deinterleaver}
-use Rattle.laws.specs.Outcome.{Line, refused}
+use Rattle.laws.specs.Outcome.{Line, Clear, refused}
 use Rattle.laws.specs.Sentences.{Sentence, sentence, FirstTrue, Told, none, more, told-reach, told-past, said-exactly, kept-alone}
+use Rattle.laws.specs.Told.{told-join}
 use Rattle.laws.specs.Walk.{Rule}
 use Rattle.sets.specs.declared.Set.{Set}
 use Rattle.sets.specs.declared.Family.{Family}
 use Rattle.sets.specs.declared.Family.the-variants.{Carrier, Turbo}
-use Rattle.sets.specs.Profiles.{familyOf, profileListed, bitsListed, sizeListed}
+use Rattle.sets.specs.Profiles.{familyOf}
 use Rattle.sets.specs.Carried.{five-turbo, turbo-five}
-use Rattle.sets.specs.Verdict.{setLines, refusal}
+use Rattle.sets.specs.Verdict.{refusal}
 use Rattle.sets.specs.Refusals.{setSentences, set-told, refusals-apart}
 use Rattle.wcdma_plan.specs.Search.{FewFound, fails-few, few-fails}
 use Rattle.walks.specs.declared.Walk.{Walk}
@@ -74,22 +75,22 @@ few-walk Deinterleaver s b e h = five-barred Deinterleaver s b (h .0, refl)
 
 -- the lines of the plan and their sentences, with others behind them
 pub plan-told : {C : Type 0} (s : Set) {ls : List Line} {ps : List Sentence}
-    → Told ((((C × (not (profileListed s) ≡ false)) × (not (bitsListed s) ≡ false)) × (not (sizeListed s) ≡ false)) × (ruleOf s .fails ≡ false)) ls ps
-    → Told C (planLines s ++ ls) (planSentences s ++ ps)
-unfolding planLines setLines
-plan-told s t = set-told s (more {p = SearchPasses s} (λ c e. gives-few s e) (λ c e h. few-gives s e h) t)
+    → Told (C × Clear (planLines s)) ls ps → Told C (planLines s ++ ls) (planSentences s ++ ps)
+unfolding planLines
+plan-told s t = told-join (told-join (set-told s) (more {p = SearchPasses s} (λ c e. gives-few s e) (λ c e h. few-gives s e h) none)) t
 
 walk-told : (way : Way) (w : Walk) → Told (Unit {0}) (walkLines way w) (walkSentences way w)
-unfolding walkLines setLines
+unfolding walkLines
 walk-told way w =
     more (λ c e. barred-five way (w .set) e) (λ c e h. five-barred way (w .set) e h)
-    (set-told (w .set) (more {p = SearchPasses (w .set)} (λ c e. walk-few way (w .set) e) (λ c e h. few-walk way (w .set) (c .0 .0 .0 .1) e h)
+    (told-join (set-told (w .set))
+    (more {p = SearchPasses (w .set)} (λ c e. walk-few way (w .set) e) (λ c e h. few-walk way (w .set) (c .0 .1) e h)
     (told-past 9 (ruleIn way (w .set) .total) (w .cell) none)))
 
 one-told : (s : Set) (x : ℕ) → Told (Unit {0}) (oneLines s x) (oneSentences s x)
-unfolding oneLines setLines
+unfolding oneLines
 one-told s x =
-    set-told s (more {p = SearchPasses s} (λ c e. gives-few s e) (λ c e h. few-gives s e h) (told-reach 4 (s .n) x none))
+    told-join (set-told s) (more {p = SearchPasses s} (λ c e. gives-few s e) (λ c e h. few-gives s e h) (told-reach 4 (s .n) x none))
 
 -- a number is said exactly when its sentence holds and none before it does
 pub refusal-order-walk : (way : Way) (w : Walk) (room k : ℕ) → (walkedOf way w room ≡ refused (refusal (w .set) k)) ↔ FirstTrue (walkSentences way w) k

@@ -3,12 +3,13 @@
 use Prim.Native.Nat.{ℕ, zero, suc, _-_}
 use mathlib.Core.Bool.{Bool, cond}
 use mathlib.Core.Path.{_≡_, refl}
+use Rattle.laws.specs.Euclid.{gcdIn, gcd}
 use Rattle.laws.specs.Keep.{steps}
 use Rattle.laws.specs.Once.{inside}
 use Rattle.laws.specs.Walk.{walkCells}
 use Rattle.wcdma_plan.specs.Rectangle.{rows, primes, firstPrime, prime, colsOf, cols, cells}
 use Rattle.wcdma_plan.specs.Powers.{power, firstOne, generates, rootFrom, root}
-use Rattle.wcdma_plan.specs.Numbers.{gcdIn, gcd, noDivisor, isPrime, passes, nextIn, nextQ, qOf}
+use Rattle.wcdma_plan.specs.Numbers.{noDivisor, isPrime, passes, nextIn, nextQ, qOf}
 use Rattle.wcdma_plan.specs.Orders.{rowOrders, whichOrder, orderOf, rowAt}
 use Rattle.wcdma.specs.Turbo.{entry, address, turboRule}
 

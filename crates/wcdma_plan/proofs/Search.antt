@@ -7,8 +7,9 @@ use native.Mathlib.Nat.{mul-le-mul}
 use native.Mathlib.Omega.{arith}
 use lib.Dec.{eqb, ltb}
 use borrow.Author.Tests.{ltb-true, ltb-false, eq-eqb, ne-eqb, le-ltb, lt-ltb}
+use Rattle.laws.specs.Euclid.{gcd}
 use Rattle.laws.specs.Span.{span, at-number}
-use Rattle.wcdma_plan.specs.Numbers.{gcd, noDivisor, isPrime, passes, nextIn, nextQ}
+use Rattle.wcdma_plan.specs.Numbers.{noDivisor, isPrime, passes, nextIn, nextQ}
 
 next-step : (m q : ℕ) → q < 89 → nextIn m (suc q) (89 - q) ≡ cond (passes m (suc q)) (suc q) (nextIn m (suc (suc q)) (89 - suc q))
 unfolding nextIn

@@ -8,9 +8,10 @@ use native.Mathlib.Nat.{zero-add, zero-mul, zero-mod, add-zero, add-suc, suc-add
 use native.Mathlib.Omega.{arith}
 use lib.Dec.{eqb}
 use borrow.Author.Tests.{eqb-true, ne-eqb}
+use Rattle.laws.specs.Euclid.{gcdIn, gcd}
 use Rattle.laws.specs.Members.{both, every, at-each}
 use Rattle.wcdma_plan.specs.Rectangle.{rows, primes}
-use Rattle.wcdma_plan.specs.Numbers.{gcdIn, gcd, noDivisor, isPrime, passes, nextIn, nextQ, qOf, allFound, searchFails}
+use Rattle.wcdma_plan.specs.Numbers.{noDivisor, isPrime, passes, nextIn, nextQ, qOf, allFound, searchFails}
 use Rattle.wcdma_plan.specs.Shape.{rows-pos, rows-le, prime-listed}
 use Rattle.wcdma_plan.specs.Primes.{Next, next-is}
 

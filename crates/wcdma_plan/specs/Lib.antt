@@ -3,7 +3,6 @@ pub mod Powers
 pub mod Numbers
 pub mod Orders
 pub mod Shape
-pub mod Euclid
 pub mod Primes
 pub mod Roots
 pub mod Found

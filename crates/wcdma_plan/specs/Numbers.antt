@@ -3,18 +3,8 @@
 use Prim.Native.Nat.{ℕ, zero, suc, _-_, _%_}
 use mathlib.Core.Bool.{Bool, true, cond, not, _&&_}
 use lib.Dec.{eqb, ltb}
+use Rattle.laws.specs.Euclid.{gcd}
 use Rattle.wcdma_plan.specs.Rectangle.{rows, prime}
-
--- Euclid's steps, at most n of them
-unfoldable pub gcdIn : ℕ → ℕ → ℕ → ℕ
-gcdIn zero a b = a
-gcdIn (suc n) a b =
-    let next = gcdIn n b (a % b) in
-    cond (eqb b 0) a next
-
--- the greatest common divisor
-unfoldable pub gcd : ℕ → ℕ → ℕ
-gcd a b = gcdIn (suc b) a b
 
 -- none of the n numbers from d on divides q
 unfoldable pub noDivisor : ℕ → ℕ → ℕ → Bool

@@ -7,10 +7,11 @@ use native.Mathlib.Nat.{eq-or-lt-of-le}
 use native.Mathlib.Omega.{arith}
 use lib.Dec.{eqb, ltb}
 use borrow.Author.Tests.{ltb-true, lt-ltb, ltb-false, eqb-true, eqb-false, eq-eqb, ne-eqb}
+use Rattle.laws.specs.Euclid.{gcd}
 use Rattle.laws.specs.Members.{both}
 use Rattle.laws.specs.Keep.{keep}
 use Rattle.wcdma_plan.specs.Rectangle.{primes}
-use Rattle.wcdma_plan.specs.Numbers.{gcd, noDivisor, isPrime, passes, nextIn, above, nextQ}
+use Rattle.wcdma_plan.specs.Numbers.{noDivisor, isPrime, passes, nextIn, above, nextQ}
 
 -- q is above 1 and has no divisor from 2 to q - 1
 pub record Prime (q : ℕ) : Type 0 where

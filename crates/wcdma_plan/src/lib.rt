@@ -2,12 +2,12 @@
 // in specs/. A walk pays this once a call.
 mod tables;
 
+use residues::gcd_of;
 ghost use mathlib.Core.Path.{_≡_};
 ghost use Prim.Native.Nat.{ℕ, _+_, _*_, _-_, _%_, _<_};
 ghost use lib.ListN.{getD};
 ghost use Rattle.wcdma_plan.specs.Rectangle.{Size, within, rows, cols};
 ghost use Rattle.wcdma_plan.specs.Powers.{power};
-ghost use Rattle.wcdma_plan.specs.Numbers.{gcd};
 ghost use Rattle.wcdma_plan.specs.Orders.{whichOrder, orderOf, rowAt};
 ghost use Rattle.wcdma_plan.specs.Post.{ShapeOf, PlaceIn, PlaceOf, ColsIn, NextOf, NumbersIn, NumbersOf, shortBy, StepIn, PowersIn, RowIn};
 
@@ -91,13 +91,6 @@ pub fn shape_of(k: usize) -> Shape
     let c = cols_of(k, r, p);
     let v = tables::root_at(n);
     Shape { k, r, p, c, v }
-}
-
-// The greatest common divisor, by Euclid.
-fn gcd_of(a: u32, b: u32) -> u32
-    ensures { λ r. ⌜ r ≡ gcd a b ⌝ }
-{
-    if b == 0 { a } else { gcd_of(b, a % b) }
 }
 
 // The least prime above 6 and above last, which is odd, that has no common divisor with m; 0 if it would be above 89. An even number is no

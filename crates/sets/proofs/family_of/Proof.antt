@@ -6,11 +6,11 @@ use Rattle.sets.proofs.family_of.Tie as tie
 
 returns : tie.Need-returns
 unfolding familyOf
-returns c = simp (eq-eqb _ _ (c .if1 .taken))
+returns c = simp (eq-eqb _ 5 (c .if1 .taken))
 
 returns-2 : tie.Need-returns-2
 unfolding familyOf
-returns-2 c = simp (ne-eqb _ _ (c .if1 .left))
+returns-2 c = simp (ne-eqb _ 5 (c .if1 .left))
 
 pub family-of-spec : {M : Type 1} → statement M
 family-of-spec = tie.close (tie.spec returns returns-2)

@@ -1,82 +1,29 @@
--- `sets::size_listed` is the test of the size, profile by profile.
-use mathlib.Core.Path.{_∙_}
-use mathlib.Core.Bool.{or-false}
+-- `sets::size_listed` is the test of the size, family by family.
+use mathlib.Core.Path.{sym, _∙_}
 use borrow.Author.Needs.{needs}
-use borrow.Author.Tests.{eq-eqb, ne-eqb}
-use Rattle.sets.specs.Profiles.{sizeListed}
+use Rattle.sets.specs.Listed.{size-by}
 use Rattle.sets.proofs.size_listed.Statement.{statement}
 use Rattle.sets.proofs.size_listed.Tie as tie
 
-mul-result : tie.Need-mul-result
-mul-result c = search needs
+family-of-requires : tie.Need-family-of-requires
+family-of-requires c κs = search needs
 
-mul-result-2 : tie.Need-mul-result-2
-mul-result-2 c = search needs
+enum-told : tie.Need-enum-told
+enum-told c = search needs
 
-mul-result-3 : tie.Need-mul-result-3
-mul-result-3 c = search needs
+carrier-listed-requires : tie.Need-carrier-listed-requires
+carrier-listed-requires c κs = search needs
 
-mul-result-4 : tie.Need-mul-result-4
-mul-result-4 c = search needs
-
-mul-result-5 : tie.Need-mul-result-5
-mul-result-5 c = search needs
+enum-told-2 : tie.Need-enum-told-2
+enum-told-2 c = search needs
 
 returns : tie.Need-returns
-unfolding sizeListed
-returns c = simp (eq-eqb _ _ (c .if1 .taken), or-false)
-
-mul-multiple-of : tie.Need-mul-multiple-of
-mul-multiple-of c = search needs
-
-multiple-of-requires : tie.Need-multiple-of-requires
-multiple-of-requires c κs = search needs
+returns c =
+    let t = c .before in
+    c .carrier-listed .ensures ∙ sym (size-by _ (sym (t .before .before .family-of .ensures) ∙ t .enum-told .given .1))
 
 returns-2 : tie.Need-returns-2
-unfolding sizeListed
-returns-2 c = c .multiple-of .ensures ∙ simp (ne-eqb _ _ (c .before .before .if1 .left), eq-eqb _ _ (c .before .if2 .taken))
-
-mul-result-6 : tie.Need-mul-result-6
-mul-result-6 c = search needs
-
-returns-3 : tie.Need-returns-3
-unfolding sizeListed
-returns-3 c = simp (ne-eqb _ _ (c .before .before .if1 .left), ne-eqb _ _ (c .before .if2 .left), eq-eqb _ _ (c .if3 .taken))
-
-group-of-requires : tie.Need-group-of-requires
-group-of-requires c κs = search needs
-
-mul-unit : tie.Need-mul-unit
-mul-unit c = search needs
-
-multiple-of-requires-2 : tie.Need-multiple-of-requires-2
-multiple-of-requires-2 c κs = search needs
-
-returns-4 : tie.Need-returns-4
-unfolding sizeListed
-returns-4 c = c .multiple-of2 .ensures ∙ simp (c .before .group-of .ensures .0, ne-eqb _ _ (c .before .before .before .before .before .if1 .left), ne-eqb _ _ (c .before .before .before .before .if2 .left), ne-eqb _ _ (c .before .before .before .if3 .left), eq-eqb _ _ (c .before .before .if4 .taken))
-
-returns-5 : tie.Need-returns-5
-unfolding sizeListed
-returns-5 c = simp (ne-eqb _ _ (c .before .before .before .if1 .left), ne-eqb _ _ (c .before .before .if2 .left), ne-eqb _ _ (c .before .if3 .left), ne-eqb _ _ (c .if4 .left))
+returns-2 c = sym (size-by _ (sym (c .before .before .family-of .ensures) ∙ c .enum-told2 .given .1))
 
 pub size-listed-spec : {M : Type 1} → statement M
-size-listed-spec =
-    tie.close
-    (tie.spec
-    mul-result
-    mul-result-2
-    mul-result-3
-    mul-result-4
-    mul-result-5
-    returns
-    mul-multiple-of
-    multiple-of-requires
-    returns-2
-    mul-result-6
-    returns-3
-    group-of-requires
-    mul-unit
-    multiple-of-requires-2
-    returns-4
-    returns-5)
+size-listed-spec = tie.close (tie.spec family-of-requires enum-told carrier-listed-requires enum-told-2 returns returns-2)

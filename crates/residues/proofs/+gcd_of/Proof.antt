@@ -1,17 +1,17 @@
--- `gcd_of` is the greatest common divisor: each call is a step of Euclid, and the second number falls. Assumes nothing.
+-- `gcd_of` is the greatest common divisor: each call is a step of Euclid, and the second number falls.
 use Prim.Native.Nat.{_<_, ℕ}
 use borrow.Author.Needs.{needs}
 use mathlib.Core.Path.{_∙_, _≡_, sym}
 use native.Mathlib.Nat.{mod-lt}
 use native.Mathlib.Omega.{arith}
-use Rattle.wcdma_plan.specs.Euclid.{gcd-step, gcd-zero}
+use Rattle.laws.specs.Euclid.{gcd-step, gcd-zero}
 use borrow.Fn.Kinds.{In}
 use borrow.Fn.PlainCycle.{Measures, is, falls, and}
-use Rattle.wcdma_plan.proofs.gcd_of.Reads as gcd-of
-use Rattle.wcdma_plan.proofs.gcd_of.Kinds as gcd-of-kinds
-use Rattle.wcdma_plan.proofs.+gcd_of.Lts-gcd_of as gcd-of-lts
-use Rattle.wcdma_plan.proofs.+gcd_of.{statement}
-use Rattle.wcdma_plan.proofs.+gcd_of.Tie.{close}
+use Rattle.residues.proofs.gcd_of.Reads as gcd-of
+use Rattle.residues.proofs.gcd_of.Kinds as gcd-of-kinds
+use Rattle.residues.proofs.+gcd_of.Lts-gcd_of as gcd-of-lts
+use Rattle.residues.proofs.+gcd_of.{statement}
+use Rattle.residues.proofs.+gcd_of.Tie.{close}
 
 abbrev μ-gcd-of : Measures 0 gcd-of-kinds.ps ℕ
 μ-gcd-of κs a = a .1 .0

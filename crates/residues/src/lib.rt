@@ -1,0 +1,21 @@
+// Arithmetic that several interleavers need to set themselves up or to step: the greatest common divisor, and a sum modulo k. (laws has the
+// mathematics: specs/Euclid.antt.)
+ghost use mathlib.Core.Path.{_≡_};
+ghost use Prim.Native.Nat.{_+_, _%_, _<_};
+ghost use Rattle.laws.specs.Euclid.{gcd};
+
+// The greatest common divisor, by Euclid: the second number falls.
+pub fn gcd_of(a: u32, b: u32) -> u32
+    ensures { λ r. ⌜ r ≡ gcd a b ⌝ }
+{
+    if b == 0 { a } else { gcd_of(b, a % b) }
+}
+
+// The sum of two numbers below k, modulo k: a comparison and no division.
+pub fn plus(k: usize, a: usize, b: usize) -> usize
+    requires { ⌜ (a < k) × (b < k) × (k < 65536) ⌝ }
+    ensures { λ r. ⌜ r ≡ (a + b) % k ⌝ }
+{
+    let sum = a + b;
+    if sum < k { sum } else { sum - k }
+}

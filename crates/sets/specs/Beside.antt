@@ -1,0 +1,16 @@
+-- What a set must have beside a listed size: nothing. A line of it is told by a sentence where the size is listed.
+use mathlib.Core.List.{List, [], List·Memᴰ}
+use Rattle.laws.specs.Outcome.{Line}
+use Rattle.laws.specs.Sentences.{Sentence, Told, none}
+use Rattle.sets.specs.declared.Set.{Set}
+use Rattle.sets.specs.Size.{sizeOf}
+use Rattle.sets.specs.Profiles.{listedSizes}
+
+abbrev pub besideLines : Set → List Line
+besideLines s = []
+
+abbrev pub besideSentences : Set → List Sentence
+besideSentences s = []
+
+pub beside-told : (s : Set) → Told (List·Memᴰ (sizeOf s) listedSizes) (besideLines s) (besideSentences s)
+beside-told s = none

@@ -1,0 +1,94 @@
+-- A size is what a table lists: a profile, bits per carrier and N. A table is counted out profile by profile, each with a row for its bits
+-- and the N that go with them. Over any table; specs/Profiles.antt has the one of document 01.
+use mathlib.Core.Path.{_≡_, refl}
+use mathlib.Core.Bool.{Bool, true, false, false≢true}
+use mathlib.Core.Logic.{_⊎_, inl, inr, ⊎-elim}
+use mathlib.Core.List.{List, [], _∷_, _++_, map, List·Memᴰ, List·Memᴰ·head, List·Memᴰ·tail, List·Memᴰ·not-nil, List·Memᴰ·cases-cons}
+use mathlib.Core.List.{List·Memᴰ·append-cases, Memᴰ·append-left, Memᴰ·append-right, Memᴰ·map}
+use Prim.Native.Nat.{ℕ, _*_}
+use Rattle.laws.specs.Run.{run}
+use Rattle.sets.specs.declared.Set.{Set}
+
+pub record Size : Type 0 where
+  pub profile : ℕ
+  pub bits : ℕ
+  pub n : ℕ
+
+abbrev pub size : ℕ → ℕ → ℕ → Size
+size p b n = record { profile = p; bits = b; n = n }
+
+-- the size of a set
+abbrev pub sizeOf : Set → Size
+sizeOf s = size (s .profile) (s .bits) (s .n)
+
+-- a row of a profile: bits per carrier, and the sizes N with them
+pub record Row : Type 0 where
+  pub bits : ℕ
+  pub sizes : List ℕ
+
+abbrev pub row : ℕ → List ℕ → Row
+row b ns = record { bits = b; sizes = ns }
+
+-- a profile: its number and its rows
+pub record Profile : Type 0 where
+  pub number : ℕ
+  pub rows : List Row
+
+abbrev pub profile : ℕ → List Row → Profile
+profile p rs = record { number = p; rows = rs }
+
+-- u, 2u, 3u, .., m of them
+abbrev pub multiples : ℕ → ℕ → List ℕ
+multiples u m = run (λ j. u * j) 1 m
+
+-- some number stands in a list, as a test
+abbrev pub some : List ℕ → Bool
+some [] = false
+some (n ∷ ns) = true
+
+pub some-of : (ns : List ℕ) → some ns ≡ true → (n : ℕ) × List·Memᴰ n ns
+some-of [] e = absurd (false≢true e)
+some-of (n ∷ ns) e = (n, List·Memᴰ·head refl)
+
+-- the sizes of rows, of a profile, of profiles
+abbrev pub inRows : ℕ → List Row → List Size
+inRows p [] = []
+inRows p (r ∷ rs) = map (size p (r .bits)) (r .sizes) ++ inRows p rs
+
+abbrev pub sizesOf : Profile → List Size
+sizesOf q = inRows (q .number) (q .rows)
+
+abbrev pub allSizes : List Profile → List Size
+allSizes [] = []
+allSizes (q ∷ qs) = sizesOf q ++ allSizes qs
+
+-- what stands in a row stands in the profile, and what stands in a profile stands in the table ..
+pub in-rows : (p : ℕ) (rs : List Row) {r : Row} {n : ℕ}
+    → List·Memᴰ r rs → List·Memᴰ n (r .sizes) → List·Memᴰ (size p (r .bits) n) (inRows p rs)
+in-rows p [] m h = absurd (List·Memᴰ·not-nil m)
+in-rows p (q ∷ rs) {r} {n} m h =
+    ⊎-elim here (λ l. Memᴰ·append-right (map (size p (q .bits)) (q .sizes)) (in-rows p rs l h)) (List·Memᴰ·cases-cons m)
+  where
+    here : r ≡ q → List·Memᴰ (size p (r .bits) n) (inRows p (q ∷ rs))
+    here e = rw (← e) (Memᴰ·append-left (inRows p rs) (Memᴰ·map (size p (r .bits)) h))
+
+pub in-all : (qs : List Profile) {q : Profile} {z : Size} → List·Memᴰ q qs → List·Memᴰ z (sizesOf q) → List·Memᴰ z (allSizes qs)
+in-all [] m h = absurd (List·Memᴰ·not-nil m)
+in-all (p ∷ qs) {q} {z} m h = ⊎-elim here (λ l. Memᴰ·append-right (sizesOf p) (in-all qs l h)) (List·Memᴰ·cases-cons m)
+  where
+    here : q ≡ p → List·Memᴰ z (allSizes (p ∷ qs))
+    here e = rw (← e) (Memᴰ·append-left (allSizes qs) h)
+
+-- .. and back: in one of the profiles
+pub of-all : (qs : List Profile) {z : Size} → List·Memᴰ z (allSizes qs) → (q : Profile) × List·Memᴰ q qs × List·Memᴰ z (sizesOf q)
+of-all [] m = absurd (List·Memᴰ·not-nil m)
+of-all (p ∷ qs) m =
+    ⊎-elim (λ h. (p, List·Memᴰ·head refl, h)) (λ h. let r = of-all qs h in (r .0, List·Memᴰ·tail (r .1), r .2))
+    (List·Memᴰ·append-cases (sizesOf p) m)
+
+-- in one of two tables
+pub either-all : (ps qs : List Profile) {z : Size}
+    → List·Memᴰ z (allSizes (ps ++ qs)) → List·Memᴰ z (allSizes ps) ⊎ List·Memᴰ z (allSizes qs)
+either-all ps qs m =
+    let r = of-all (ps ++ qs) m in
+    ⊎-elim (λ l. inl (in-all ps l (r .2))) (λ l. inr (in-all qs l (r .2))) (List·Memᴰ·append-cases ps (r .1))
