@@ -9,5 +9,5 @@ pub record Perm (n : ℕ) (l m : ℕ → ℕ) : Type 0 where
   pub m-of-l : (t : ℕ) → t < n → m (l t) ≡ t
 
 -- the same the other way round
-pub turned : {n : ℕ} {l m : ℕ → ℕ} → Perm n l m → Perm n m l
-turned p = record { l-below = p .m-below; m-below = p .l-below; l-of-m = p .m-of-l; m-of-l = p .l-of-m }
+pub swapped : {n : ℕ} {l m : ℕ → ℕ} → Perm n l m → Perm n m l
+swapped p = record { l-below = p .m-below; m-below = p .l-below; l-of-m = p .m-of-l; m-of-l = p .l-of-m }

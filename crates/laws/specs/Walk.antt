@@ -19,7 +19,7 @@ use Rattle.laws.specs.declared.Single.{Single}
 use Rattle.laws.specs.declared.Single.the-variants.{At, Barred}
 use Rattle.laws.specs.Outcome.{Outcome, done, refused, Line, line, judged, after}
 use Rattle.laws.specs.Run.{run, length-run, take-run, drop-run}
-use Rattle.laws.specs.Perm.{Perm, turned}
+use Rattle.laws.specs.Perm.{Perm, swapped}
 use Rattle.laws.specs.Keep.{keep, wrote, steps, padding}
 use Rattle.laws.specs.Cut.{kept-or-padding, wrote-take, keep-cut}
 use Rattle.laws.specs.Once.{inside}
@@ -115,7 +115,7 @@ module _ {n : ℕ} {r : Rule} (h : Lawful n r) where
   -- M is lawful where L is
   pub lawful-back : Lawful n (back n r)
   lawful-back = record {
-    perm = turned (h .perm);
+    perm = swapped (h .perm);
     list = keep-bare (r .m) (inside n) 0 n (λ x l o. lt-ltb (r .m x) n (h .perm .m-below x (omega arith)));
     small = omega (arith, n-le, h .small);
   }

@@ -7,7 +7,7 @@ use native.Mathlib.Omega.{arith}
 use lib.ListN.{length}
 use Rattle.laws.specs.declared.Way.{Way}
 use Rattle.laws.specs.declared.Way.the-variants.{Interleaver, Deinterleaver}
-use Rattle.laws.specs.Perm.{Perm, turned}
+use Rattle.laws.specs.Perm.{Perm, swapped}
 use Rattle.laws.specs.Move.{gather, scatter, gather-same, scatter-same, gather-any, scatter-any, scatter-is}
 use Rattle.laws.specs.Blind.{gather-blind, scatter-blind}
 use Rattle.laws.specs.Loop.{by, Within}
@@ -21,7 +21,7 @@ other Deinterleaver = Interleaver
 -- the two lists of a way undo each other
 pub perm-in : (way : Way) {n : ℕ} (r : Rule) → Perm n (r .l) (r .m) → Perm n (inWay way n r .l) (inWay (other way) n r .l)
 perm-in Interleaver r p = p
-perm-in Deinterleaver r p = turned p
+perm-in Deinterleaver r p = swapped p
 
 -- a table holds so many addresses, and input and output are that long
 pub record Fitting {A : Type 0} (table : List ℕ) (src dst : List A) : Type 0 where

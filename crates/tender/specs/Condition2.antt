@@ -1,12 +1,14 @@
--- Condition 2 of the tender: exactly the listed parameter sets are accepted; each symbol goes where the standard's formula sends it, and
--- comes back; each index is used once; no symbol's value is read to decide where anything goes. Each theorem is a statement for a reader,
--- over the definitions that the public contracts cite; its proof is a citation. (The stream's part is in Stream.antt.) Assumes nothing.
-use Prim.Native.Nat.{ℕ, _*_, _<_}
+-- Condition 2 of the tender: exactly the listed parameter sets are accepted, and served; each symbol goes where the formula of document 01 sends it,
+-- and comes back; each index is used once; no symbol's value is read to decide where anything goes. Each theorem is a statement for a reader,
+-- over the definitions that the public contracts cite; its proof is a citation. (Symbols of a width are in Symbols.antt, the stream in Stream.antt.)
+use Prim.Native.Nat.{ℕ, _*_, _≤_, _<_}
 use mathlib.Core.List.{List, List·Memᴰ, map}
 use mathlib.Core.Logic.{_↔_, _≢_}
-use mathlib.Core.Path.{_≡_, refl, sym, ap, _∙_}
+use mathlib.Core.Path.{_≡_, refl, ap, _∙_}
 use native.Mathlib.Omega.{arith}
 use lib.ListN.{length, getD}
+use Rattle.laws.specs.declared.Way.{Way}
+use Rattle.laws.specs.declared.Way.the-variants.{Interleaver, Deinterleaver}
 use Rattle.laws.specs.Outcome.{done}
 use Rattle.laws.specs.Perm.{Perm}
 use Rattle.laws.specs.Sized.{Sized}
@@ -23,15 +25,24 @@ use Rattle.sets.specs.Carried.{five-turbo, other-carrier}
 use Rattle.carrier.specs.Formula.{carrierL, carrierM}
 use Rattle.carrier.specs.Once.{carrier-once}
 use Rattle.wcdma.specs.Turbo.{turboL, turboM}
-use Rattle.walks.specs.Rules.{L, M, rule-is}
+use Rattle.walks.specs.declared.Walk.{Walk}
+use Rattle.walks.specs.Rules.{ruleIn, rule-is}
+use Rattle.walks.specs.Rules as rules
 use Rattle.walks.specs.Lists as lists
-use Rattle.blocks.specs.Answer.{movedOf, interleaved, deinterleaved}
+use Rattle.walks.specs.Answer.{walkedOf, walkValues, foundOf}
+use Rattle.walks.specs.Served.{walk-served, address-served, walkable-listed}
+use Rattle.tables.specs.Answer.{movedOf}
+use Rattle.tables.specs.Passed.{block-served}
+use Rattle.blocks.specs.Answer.{moved}
 use Rattle.blocks.specs.Laws as moves
 
--- "Exactly the listed parameter sets are accepted": the test of a set says accepted if and only if its size, which is its profile, bits and N,
--- stands in document 01's table, counted out size by size, and no sentence of what a set must have beside it holds. (Crate sets,
--- specs/Beside.antt: it need have nothing.) The table ..
-pub admits : (s : Set) → (List·Memᴰ (sizeOf s) listedSizes × NoneTrue (besideSentences s)) ↔ (verdictOf s ≡ done tt)
+-- a set is listed: its size, which is its profile, bits and N, stands in document 01's table, counted out size by size, and no sentence of
+-- what a set must have beside it holds. (Crate sets, specs/Beside.antt: it need have nothing)
+abbrev pub Listed : Set → Type 0
+Listed s = List·Memᴰ (sizeOf s) listedSizes × NoneTrue (besideSentences s)
+
+-- "Exactly the listed parameter sets are accepted": the test of a set says accepted if and only if it is listed. The table ..
+pub admits : (s : Set) → Listed s ↔ (verdictOf s ≡ done tt)
 admits s = admitted.admits s
 
 -- .. has 20, 11, 4, 272 and 5,075 sizes for profiles 1 to 5
@@ -39,18 +50,41 @@ pub listed-counts : (length (sizesOf ofdm) ≡ 20) × (length (sizesOf ofdma) �
     × (length (sizesOf turbo) ≡ 5075)
 listed-counts = (counts .ofdm-has, counts .ofdma-has, counts .wlan-has, counts .bench-has, counts .turbo-has)
 
--- L: output t holds input L(t). M: input k goes to output M(k) (crate walks, specs/Rules.antt, by family);
+-- and accepted means served: of a listed set a walk is done from every cell up to the total, with any room (for M, profile 5 apart) ..
+pub served-walk : (way : Way) (w : Walk) (room : ℕ) → Listed (w .set) → (way ≡ Deinterleaver → w .set .profile ≢ 5) → w .cell ≤ ruleIn way (w .set) .total
+    → walkedOf way w room ≡ done (walkValues way w room)
+served-walk way w room l n h = walk-served way w room (walkable-listed way (w .set) (admits (w .set) .0 l) n) h
+
+-- .. an address is found at every position below N, L(x) or M(x) ..
+pub served-address : (way : Way) (s : Set) (x : ℕ) → Listed s → x < s .n → foundOf way s x ≡ done (ruleIn way s .l x)
+served-address way s x l h = address-served way s x (admits s .0 l) h
+
+-- .. and a block of N into N is moved
+pub served-block : (s : Set) {i o : ℕ} → Listed s → i ≡ s .n → o ≡ s .n → movedOf s (s .n) i o ≡ done tt
+served-block s l i o = block-served s (s .n) (admits s .0 l) i o
+
+-- L: output t holds input L(t). M: input k goes to output M(k) (crate walks, specs/Rules.antt, by family)
+abbrev pub L : Set → ℕ → ℕ
+L s = rules.L s
+
+abbrev pub M : Set → ℕ → ℕ
+M s = rules.M s
+
 -- they are the carrier formulas for profiles 1 to 4 ..
 pub formulas-carrier : (s : Set) → s .profile ≢ 5 → (L s ≡ carrierL (rowsOf s) (s .n) (groupOf s)) × (M s ≡ carrierM (rowsOf s) (s .n) (groupOf s))
-formulas-carrier s ne = let e = rule-is s (other-carrier s ne) in (ap (λ (r : Rule). r .l) e, ap (λ (r : Rule). r .m) e)
+formulas-carrier s ne =
+    let e = rule-is s (other-carrier s ne) in
+    (ap (λ (r : Rule). r .l) e, ap (λ (r : Rule). r .m) e)
 
 -- .. and for profile 5 the WCDMA turbo list as document 01 describes it (docs/DECISIONS.md, 11), and the place in it
 pub formulas-turbo : (s : Set) → s .profile ≡ 5 → (L s ≡ turboL (s .n)) × (M s ≡ turboM (s .n))
-formulas-turbo s five = let e = rule-is s (five-turbo s five) in (ap (λ (r : Rule). r .l) e, ap (λ (r : Rule). r .m) e)
+formulas-turbo s e =
+    let q = rule-is s (five-turbo s e) in
+    (ap (λ (r : Rule). r .l) q, ap (λ (r : Rule). r .m) q)
 
--- "Each index is used once": of every accepted set, L and M are below N and undo each other there
-pub each-once : (s : Set) → verdictOf s ≡ done tt → Perm (s .n) (L s) (M s)
-each-once s e = lists.each-once s e
+-- "Each index is used once": of every listed set, L and M are below N and undo each other there
+pub each-once : (s : Set) → Listed s → Perm (s .n) (L s) (M s)
+each-once s l = lists.each-once s (admits s .0 l)
 
 -- for example IEEE 802.11a's four lists
 pub each-once-wlan : Perm 48 (carrierL 16 48 1) (carrierM 16 48 1) × Perm 96 (carrierL 16 96 1) (carrierM 16 96 1)
@@ -60,36 +94,44 @@ each-once-wlan = (once 48 1 3 (omega arith) refl (omega arith), once 96 1 6 (ome
     once : (n s b : ℕ) → 0 < s → n ≡ 16 * (s * b) → 0 < n → Perm n (carrierL 16 n s) (carrierM 16 n s)
     once n s b hs e hn = carrier-once (record { d-pos = omega arith; s-pos = hs; n-pos = hn; groups = b; whole = e })
 
--- "Each symbol goes where the standard's formula sends it": where a block call is done, output t holds input L(t) ..
-module _ {A : Type 0} (s : Set) (z : A) (src dst : List A) (e : movedOf s (length src) (length dst) ≡ done tt) where
-  pub source : (t : ℕ) → t < s .n → getD (interleaved s z src dst) t z ≡ getD src (L s t) z
-  source t h = moves.source-of s z src dst e t h
+-- "Each symbol goes where the formula sends it": N symbols of a listed set. Interleaved, output t holds input L(t) ..
+module _ {A : Type 0} (s : Set) (l : Listed s) (z : A) (src dst : List A) (i : length src ≡ s .n) (o : length dst ≡ s .n) where
+  pub source : (t : ℕ) → t < s .n → getD (moved Interleaver s z src dst) t z ≡ getD src (L s t) z
+  source t h = moves.source-of Interleaver s z src dst (served-block s l i o) t h
 
   -- .. and input k is at output M(k)
-  pub target : (k : ℕ) → k < s .n → getD (interleaved s z src dst) (M s k) z ≡ getD src k z
-  target k h = moves.target-of s z src dst e k h
+  pub target : (k : ℕ) → k < s .n → getD (moved Interleaver s z src dst) (M s k) z ≡ getD src k z
+  target k h = moves.target-of Interleaver s z src dst (served-block s l i o) k h
 
-  -- .. N of them
-  pub as-long : length (interleaved s z src dst) ≡ length src
-  as-long = moves.length-interleaved s z src dst e
+  -- deinterleaved, input t is at output L(t) ..
+  pub source-back : (t : ℕ) → t < s .n → getD (moved Deinterleaver s z src dst) (L s t) z ≡ getD src t z
+  source-back t h = moves.target-of Deinterleaver s z src dst (served-block s l i o) t h
 
-  -- deinterleaving, input t is at output L(t)
-  pub source-back : (t : ℕ) → t < s .n → getD (deinterleaved s z src dst) (L s t) z ≡ getD src t z
-  source-back t h = moves.back-source-of s z src dst e t h
+  -- .. and output k holds input M(k)
+  pub target-back : (k : ℕ) → k < s .n → getD (moved Deinterleaver s z src dst) k z ≡ getD src (M s k) z
+  target-back k h = moves.source-of Deinterleaver s z src dst (served-block s l i o) k h
+
+  -- either way the output is as long as the input
+  pub as-long : (way : Way) → length (moved way s z src dst) ≡ length src
+  as-long way = moves.as-long way s z src dst (served-block s l i o)
 
 -- "and comes back": there and back, and back and there, whatever stood in the outputs before
-module _ {A : Type 0} (s : Set) (z : A) (src mid out : List A) (e : movedOf s (length src) (length mid) ≡ done tt)
-    (f : movedOf s (length src) (length out) ≡ done tt) where
-  pub there-and-back : deinterleaved s z (interleaved s z src mid) out ≡ src
-  there-and-back = moves.there-and-back s z src mid out e f
+module _ {A : Type 0} (s : Set) (l : Listed s) (z : A) (src mid out : List A) (i : length src ≡ s .n) (m : length mid ≡ s .n) (o : length out ≡ s .n) where
+  pub there-and-back : moved Deinterleaver s z (moved Interleaver s z src mid) out ≡ src
+  there-and-back = moves.there-and-back Interleaver s z src mid out (served-block s l i m) (served-block s l i o)
 
-  pub back-and-there : interleaved s z (deinterleaved s z src mid) out ≡ src
-  back-and-there = moves.back-and-there s z src mid out e f
+  pub back-and-there : moved Interleaver s z (moved Deinterleaver s z src mid) out ≡ src
+  back-and-there = moves.there-and-back Deinterleaver s z src mid out (served-block s l i m) (served-block s l i o)
 
--- "No symbol's value is read to decide where anything goes": every symbol changed by any function from any type to any other, a block call
--- answers the same, and moves the changed symbols as it would have moved the others
-module _ {A B : Type 0} (h : A → B) (s : Set) (z : A) (src dst : List A) where
-  pub blind : (movedOf s (length (map h src)) (length (map h dst)) ≡ movedOf s (length src) (length dst))
-      × (interleaved s (h z) (map h src) (map h dst) ≡ map h (interleaved s z src dst))
-      × (deinterleaved s (h z) (map h src) (map h dst) ≡ map h (deinterleaved s z src dst))
-  blind = (moves.blind-answer h s z src dst, moves.blind-interleaved h s z src dst, moves.blind-deinterleaved h s z src dst)
+-- "No symbol's value is read to decide where anything goes": what stands in for an entry that is not there is never read, so the contracts' 0 and
+-- not-a-number mean nothing ..
+pub stand-in : {A : Type 0} (way : Way) (s : Set) (y z : A) (src dst : List A) → moved way s y src dst ≡ moved way s z src dst
+stand-in way s y z src dst = moves.stand-in way s y z src dst
+
+-- .. and every symbol changed by any function from any type to any other, a zero made something else and something else made a zero, with any
+-- stand-in on either side, a block call answers the same, and moves the changed symbols as it would have moved the others
+module _ {A B : Type 0} (h : A → B) (s : Set) (src dst : List A) where
+  pub blind : (way : Way) (y : B) (z : A)
+      → (movedOf s (s .n) (length (map h src)) (length (map h dst)) ≡ movedOf s (s .n) (length src) (length dst))
+      × (moved way s y (map h src) (map h dst) ≡ map h (moved way s z src dst))
+  blind way y z = (moves.blind-answer h s src dst (s .n), moves.blind h s src dst way y z)

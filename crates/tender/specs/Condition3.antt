@@ -1,61 +1,95 @@
 -- Condition 3 of the tender, for the address walks: cut anywhere, with refused calls between, joined, the outcome is that of one call, and of
--- the closed form. Both walks: that of L along ruleL with its lines, that of M along ruleM with its own. (The streams' part is in
--- Stream.antt.) Assumes nothing.
-use Prim.Native.Nat.{ℕ, min, _+_, _-_}
-use mathlib.Core.List.{List}
+-- the closed form. A way is a parameter: the walk for L is the interleaver's, the walk for M the deinterleaver's. (The streams' part is in
+-- Stream.antt.)
+use Prim.Native.Nat.{ℕ, min, _+_, _-_, _≤_}
+use mathlib.Core.List.{List, []}
 use mathlib.Core.Logic.{_≢_}
-use mathlib.Core.Path.{_≡_}
-use native.Mathlib.Omega.{arith}
+use mathlib.Core.Path.{_≡_, refl, ap}
 use lib.ListN.{length, take}
-use Rattle.laws.specs.Outcome.{done, Clear}
+use Rattle.laws.specs.declared.Way.{Way}
+use Rattle.laws.specs.declared.Way.the-variants.{Interleaver, Deinterleaver}
+use Rattle.laws.specs.Outcome.{done}
 use Rattle.laws.specs.Run.{run}
 use Rattle.laws.specs.Keep.{keep}
 use Rattle.laws.specs.Once.{inside}
+use Rattle.laws.specs.Ends.{EndsAt, ends-once}
+use Rattle.laws.specs.Pieces as pieces
 use Rattle.laws.specs.Walk.{Rule}
 use Rattle.sets.specs.declared.Set.{Set}
-use Rattle.sets.specs.Verdict.{verdictOf}
+use Rattle.sets.specs.Profiles.{rowsOf, groupOf}
+use Rattle.sets.specs.Carried.{five-turbo, other-carrier}
+use Rattle.carrier.specs.Formula.{carrierL}
+use Rattle.wcdma_plan.specs.Rectangle.{cells}
+use Rattle.wcdma.specs.Turbo.{address}
 use Rattle.walks.specs.declared.Walk.{Walk}
-use Rattle.walks.specs.Rules.{ruleL, ruleM, L, M}
-use Rattle.walks.specs.Answer.{walkLines, backLines, walkList, walkCells, walkPadding, walkNext}
-use Rattle.walks.specs.Whole.{begin, whole-list, walk-m-is}
-use Rattle.walks.specs.Runs as runs
-use Rattle.walks.specs.Calls.{Call, Handed, joined, ended, examined, rooms, next-accepted-l, next-accepted-m}
+use Rattle.walks.specs.Rules.{ruleIn, rule-is}
+use Rattle.walks.specs.Answer.{Values, walkedOf, walkList, walkCells, walkPadding, walkNext, walkValues}
+use Rattle.walks.specs.Whole.{behind, walk-l-is, walk-m-is}
+use Rattle.walks.specs.Calls.{Call, Handed, joined, ended, examined, rooms}
 use Rattle.walks.specs.Calls as calls
+use Rattle.tender.specs.Condition2.{Listed, admits, L, M}
 
 -- any list of calls, the accepted ones handing the record on, refused ones with any record between: the joined list, the end and the cells
 -- are those of one walk with all their room
-pub walk-cut-l : {w : Walk} {cs : List Call} → Handed ruleL walkLines w cs
-    → (joined ruleL walkLines cs ≡ walkList ruleL w (rooms ruleL walkLines cs))
-    × (ended ruleL walkLines w cs ≡ walkNext ruleL w (rooms ruleL walkLines cs))
-    × (examined ruleL walkLines cs ≡ walkCells ruleL w (rooms ruleL walkLines cs))
-walk-cut-l h = let r = calls.walk-cut ruleL walkLines h in (r .list, r .end, r .cells)
+pub walk-cut : (way : Way) {w : Walk} {cs : List Call} → Handed way w cs
+    → (joined way cs ≡ walkList way w (rooms way cs))
+    × (ended way w cs ≡ walkNext way w (rooms way cs))
+    × (examined way cs ≡ walkCells way w (rooms way cs))
+walk-cut way h = let r = calls.walk-cut way h in (r .list, r .end, r .cells)
 
-pub walk-cut-m : {w : Walk} {cs : List Call} → Handed ruleM backLines w cs
-    → (joined ruleM backLines cs ≡ walkList ruleM w (rooms ruleM backLines cs))
-    × (ended ruleM backLines w cs ≡ walkNext ruleM w (rooms ruleM backLines cs))
-    × (examined ruleM backLines cs ≡ walkCells ruleM w (rooms ruleM backLines cs))
-walk-cut-m h = let r = calls.walk-cut ruleM backLines h in (r .list, r .end, r .cells)
+-- and a record that an accepted walk gives back is accepted again, whatever the room, so that a walk can always go on
+pub walk-goes-on : (way : Way) (w : Walk) (room more : ℕ) {v : Values} → walkedOf way w room ≡ done v
+    → walkedOf way (v .next) more ≡ done (walkValues way (v .next) more)
+walk-goes-on way w room more e = calls.goes-on way w room more e
 
--- and a record that an accepted walk gives back is accepted again, so that a walk can always go on
-pub walk-goes-on : (w : Walk) (room : ℕ)
-    → (Clear (walkLines w) → Clear (walkLines (walkNext ruleL w room))) × (Clear (backLines w) → Clear (backLines (walkNext ruleM w room)))
-walk-goes-on w room = (next-accepted-l w room, next-accepted-m w room)
+-- what a walk goes along. L, profiles 1 to 4: N cells, and the address of a cell is the formula's ..
+pub rule-carrier : (s : Set) → s .profile ≢ 5
+    → (ruleIn Interleaver s .total ≡ s .n) × (ruleIn Interleaver s .address ≡ carrierL (rowsOf s) (s .n) (groupOf s))
+rule-carrier s ne =
+    let e = rule-is s (other-carrier s ne) in
+    (ap (λ (r : Rule). r .total) e, ap (λ (r : Rule). r .address) e)
 
--- the closed form, along any rule: from any cell, with any room, the first of the addresses that are not padding among the cells from there
--- to the total
-pub walk-list : (rule : Set → Rule) (w : Walk) (room : ℕ)
-    → walkList rule w room ≡ take room (keep (rule (w .set) .address) (inside (w .set .n)) (w .cell) (rule (w .set) .total - w .cell))
-walk-list rule w room = runs.walk-list rule w room
+-- .. profile 5: the cells of the rectangle, R·C, and the address of a cell is T(i)·C + u ..
+pub rule-turbo : (s : Set) → s .profile ≡ 5 → (ruleIn Interleaver s .total ≡ cells (s .n)) × (ruleIn Interleaver s .address ≡ address (s .n))
+rule-turbo s p =
+    let e = rule-is s (five-turbo s p) in
+    (ap (λ (r : Rule). r .total) e, ap (λ (r : Rule). r .address) e)
 
--- the cells examined are the addresses written and the padding passed, counted by the test on each address from the old cell to the new
-pub cells-are : (rule : Set → Rule) (w : Walk) (room : ℕ) → walkCells rule w room ≡ length (walkList rule w room) + walkPadding rule w room
-cells-are rule w room = runs.cells-are rule w room
+-- .. M: N cells, the input positions, and the address of a cell is M's
+pub rule-back : (s : Set) → (ruleIn Deinterleaver s .total ≡ s .n) × (ruleIn Deinterleaver s .address ≡ M s)
+rule-back s = (refl, refl)
 
--- and these are L and M: of an accepted set the whole walk for L writes L(0) to L(N - 1) ..
-pub walk-is-l : (s : Set) → verdictOf s ≡ done tt → walkList ruleL (begin s) (s .n) ≡ run (L s) 0 (s .n)
-walk-is-l s e = whole-list s (s .n) e (omega arith)
+module _ (way : Way) (w : Walk) (room : ℕ) where
+  -- the closed form of the list: from any cell, with any room, the first of the addresses that are not padding among the cells from there to the total
+  pub walk-list : walkList way w room ≡ take room (keep (ruleIn way (w .set) .address) (inside (w .set .n)) (w .cell) (ruleIn way (w .set) .total - w .cell))
+  walk-list = pieces.walk-list (w .set .n) (ruleIn way (w .set)) (w .cell) room
 
--- .. and a walk for M, profiles 1 to 4, from cell c on: M(c), M(c + 1), as many as there is room and cells for
-pub walk-is-m : (w : Walk) (room : ℕ) → verdictOf (w .set) ≡ done tt → w .set .profile ≢ 5
-    → walkList ruleM w room ≡ run (M (w .set)) (w .cell) (min room (w .set .n - w .cell))
-walk-is-m w room e ne = walk-m-is w room e
+  -- the cells examined are the addresses written and the padding passed, counted by the test on each address from the old cell to the new
+  pub cells-are : walkCells way w room ≡ length (walkList way w room) + walkPadding way w room
+  cells-are = pieces.cells-are (w .set .n) (ruleIn way (w .set)) (w .cell) room
+
+  -- where it stops: at the total, or with its room full, and before its last cell the room was not full (EndsAt); padding behind a full room is not
+  -- passed. No other number of cells has that
+  pub walk-stops : (m : ℕ) → EndsAt (ruleIn way (w .set) .address) (inside (w .set .n)) (w .cell) (ruleIn way (w .set) .total - w .cell) room m
+      → m ≡ walkCells way w room
+  walk-stops m e =
+      ends-once (ruleIn way (w .set) .address) (inside (w .set .n)) e (pieces.walk-ends (w .set .n) (ruleIn way (w .set)) (w .cell) room)
+
+  pub walk-ends : EndsAt (ruleIn way (w .set) .address) (inside (w .set .n)) (w .cell) (ruleIn way (w .set) .total - w .cell) room (walkCells way w room)
+  walk-ends = pieces.walk-ends (w .set .n) (ruleIn way (w .set)) (w .cell) room
+
+-- with no room it moves nothing
+pub walk-without-room : (way : Way) (w : Walk) → (walkList way w 0 ≡ []) × (walkCells way w 0 ≡ 0)
+walk-without-room way w =
+    (pieces.no-list (w .set .n) (ruleIn way (w .set)) (w .cell), pieces.no-cells (w .set .n) (ruleIn way (w .set)) (w .cell))
+
+-- and these are L and M: of a listed set a walk for L from any cell up to the total, with any room, writes L on from as many addresses as are no
+-- padding before that cell ..
+pub walk-is-l : (w : Walk) (room : ℕ) → Listed (w .set) → w .cell ≤ ruleIn Interleaver (w .set) .total
+    → walkList Interleaver w room ≡ run (L (w .set)) (behind w) (min room (w .set .n - behind w))
+walk-is-l w room l h = walk-l-is w room (admits (w .set) .0 l) h
+
+-- .. and a walk for M, from cell c on, M(c), M(c + 1), as many as there is room and cells for
+pub walk-is-m : (w : Walk) (room : ℕ) → Listed (w .set) → w .cell ≤ w .set .n
+    → walkList Deinterleaver w room ≡ run (M (w .set)) (w .cell) (min room (w .set .n - w .cell))
+walk-is-m w room l h = walk-m-is w room (admits (w .set) .0 l) h

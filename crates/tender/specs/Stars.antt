@@ -19,7 +19,7 @@ use Rattle.wcdma_plan.specs.Numbers.{noDivisor, isPrime, passes, nextIn, nextQ,
 use Rattle.wcdma_plan.specs.Orders.{rowOrders, whichOrder, orderOf, rowAt}
 use Rattle.wcdma.specs.Turbo.{entry, address, padCells}
 use Rattle.wcdma.specs.Pads.{cells-are}
-use Rattle.walks.specs.Rules.{ruleOf, ruleL}
+use Rattle.walks.specs.Rules.{ruleOf}
 use Rattle.walks.specs.Rules as rules
 use Rattle.walks.specs.Lists.{listL}
 
@@ -44,12 +44,12 @@ answer L s x = rules.L s x ∷ []
 answer R s x = rows (s .n) ∷ []
 answer p s x = prime (s .n) ∷ []
 answer C s x = cols (s .n) ∷ []
-answer total s x = ruleL s .total ∷ []
+answer total s x = ruleOf s .total ∷ []
 answer padded s x = padCells (s .n) ∷ []
 answer begins s x = take x (listL s)
 answer ends s x = drop (length (listL s) - x) (listL s)
-answer give s x = keep (ruleL s .address) (inside (s .n)) 0 x
-answer pads s x = cond (inside (s .n) (ruleL s .address x)) 0 1 ∷ []
+answer give s x = keep (ruleOf s .address) (inside (s .n)) 0 x
+answer pads s x = cond (inside (s .n) (ruleOf s .address x)) 0 1 ∷ []
 
 -- a row has its proof with it: where the definitions answer something else, the row is refused, and the table with it
 pub record Row : Type 0 where

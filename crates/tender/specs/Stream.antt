@@ -1,12 +1,12 @@
 -- The DVB stream in the tender's words: condition 3, and what conditions 1 and 2 say of start and feed. A call is what the contracts of start,
--- interleave and deinterleave say of it (Call, says, storeAfter, outputAfter). Each theorem is proved beside its subject. Assumes nothing.
+-- interleave and deinterleave say of it (Call, says, storeAfter, outputAfter). Each theorem is proved beside its subject.
 use Prim.Native.Nat.{ℕ, suc, _+_, _-_, _*_, _%_, _≤_, _<_}
 use mathlib.Core.Logic.{_↔_}
 use mathlib.Core.List.{List, _++_, map}
 use mathlib.Core.Path.{_≡_, sym, ap, _∙_}
 use native.Mathlib.Omega.{arith}
 use lib.ListN.{length, getD, replicate, take}
-use Rattle.laws.specs.Outcome.{done, refused, judged, after}
+use Rattle.laws.specs.Outcome.{done, refused}
 use Rattle.laws.specs.Sentences.{FirstTrue}
 use Rattle.laws.specs.declared.Way.{Way}
 use Rattle.laws.specs.declared.Way.the-variants.{Interleaver, Deinterleaver}
@@ -14,7 +14,7 @@ use Rattle.delay.specs.Machine.{slotAt, late, runOutput, runStore}
 use Rattle.delay.specs.Delay.{late-early, late-from}
 use Rattle.streams.specs.declared.Stream.{Stream}
 use Rattle.streams.specs.Dvb.{startRecord, startStore, fedOutput, fedStore, fedRecord}
-use Rattle.streams.specs.Answers.{startLines, feedLines}
+use Rattle.streams.specs.Answers.{startedOf, startedStore, fedOf}
 use Rattle.streams.specs.Calls.{Fresh, Call, says, storeAfter, outputAfter, Calls}
 use Rattle.streams.specs.Phase.{phaseOf, output-phase, store-phase}
 use Rattle.streams.specs.Condition3 as condition3
@@ -23,11 +23,15 @@ use Rattle.streams.specs.Refusals.{startSentences, feedSentences}
 use Rattle.streams.specs.Refusals as refusals
 
 module _ {A : Type 0} where
-  -- condition 3: any calls, cut anywhere, with refused feeds between (of either way, with any record, lent any part of the store; that a refused
-  -- start changes nothing is refused-alone-start), are one run over the joined input: its output, its record, its store
+  -- condition 3: any calls, cut anywhere, with refused ones between (feeds of either way, with any record, lent any part of the store for their
+  -- store, their output or both; starts lent any part of it), are one run over the joined input: its output, its record, its store
   pub one-run : {way : Way} {s s′ : Stream} {store xs ys store′ : List A} → Calls way s store xs ys s′ store′
       → (ys ≡ fedOutput way s store xs) × (s′ ≡ fedRecord s xs) × (store′ ≡ fedStore way s store xs)
   one-run calls = let r = condition3.one-run calls in (r .output, r .next, r .stored)
+
+  -- what comes out is as long as what went in
+  pub as-long : {way : Way} {s s′ : Stream} {store xs ys store′ : List A} → Calls way s store xs ys s′ store′ → length ys ≡ length xs
+  as-long calls = condition3.as-long calls
 
   -- from a start with f: that run begins with start's own record and store, and it ends with the phase at the number of bytes fed
   pub one-run-started : {way : Way} {f : A} {s s′ : Stream} {store xs ys store′ : List A} → Fresh f s store → Calls way s store xs ys s′ store′
@@ -67,7 +71,7 @@ module _ {A : Type 0} where
 
   -- and a record and a store that calls hand on are accepted again: the next call is refused only where its lengths differ
   pub goes-on : {way : Way} {f : A} {s s′ : Stream} {store xs ys store′ : List A} → Fresh f s store → Calls way s store xs ys s′ store′
-      → (input out : List A) → length out ≡ length input → judged (λ k. k) (feedLines s′ store′ input out) (fedRecord s′ input) ≡ done (fedRecord s′ input)
+      → (input out : List A) → length out ≡ length input → fedOf s′ store′ input out ≡ done (fedRecord s′ input)
   goes-on fresh calls input out e = condition3.goes-on fresh calls input out e
 
   -- the wrap of the phase at 5,654,880 changes nothing: a feed from byte t is the machine that counts t without end
@@ -77,7 +81,7 @@ module _ {A : Type 0} where
   wrap way t store input = (output-phase way t store input, store-phase way t store input)
 
   -- condition 1: a number is said exactly when its sentence holds and none before it does ..
-  pub refusal-order-start : (store : List A) (k : ℕ) → (judged (λ n. n) (startLines store) startRecord ≡ refused k) ↔ FirstTrue (startSentences store) k
+  pub refusal-order-start : (store : List A) (k : ℕ) → (startedOf store ≡ refused k) ↔ FirstTrue (startSentences store) k
   refusal-order-start store k = refusals.refusal-order-start store k
 
   pub refusal-order-feed : (c : Call A) (k : ℕ) → (says c ≡ refused k) ↔ FirstTrue (feedSentences c) k
@@ -85,7 +89,7 @@ module _ {A : Type 0} where
 
   -- .. and then the call says that number alone, and changes no byte of what it was lent
   pub refused-alone-start : (store : List A) (f : A) (k : ℕ) → FirstTrue (startSentences store) k
-      → (judged (λ n. n) (startLines store) startRecord ≡ refused k) × (after (startLines store) (startStore f) store ≡ store)
+      → (startedOf store ≡ refused k) × (startedStore f store ≡ store)
   refused-alone-start store f k h = refusals.refused-alone-start store f k h
 
   pub refused-alone-feed : (c : Call A) (k : ℕ) → FirstTrue (feedSentences c) k
@@ -95,8 +99,8 @@ module _ {A : Type 0} where
 -- condition 2: store, fill and input changed alike by any function from any type to any other, start and feed do the same to the changed bytes
 module _ {A B : Type 0} (g : A → B) where
   pub blind-start : (store : List A) (f : A)
-      → (judged (λ n. n) (startLines (map g store)) startRecord ≡ judged (λ n. n) (startLines store) startRecord)
-      × (after (startLines (map g store)) (startStore (g f)) (map g store) ≡ map g (after (startLines store) (startStore f) store))
+      → (startedOf (map g store) ≡ startedOf store)
+      × (startedStore (g f) (map g store) ≡ map g (startedStore f store))
   blind-start store f = blindness.start-blind g store f
 
   pub blind-feed : (c : Call A)

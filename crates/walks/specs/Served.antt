@@ -2,7 +2,8 @@
 -- number 8 is never said; a walk is done from every cell up to the total, an address is found at every position below N.
 use Prim.Native.Nat.{ℕ, _≤_, _<_}
 use mathlib.Core.Bool.{false}
-use mathlib.Core.Path.{_≡_, refl, _∙_}
+use mathlib.Core.Logic.{_≢_}
+use mathlib.Core.Path.{_≡_, refl, ap, _∙_}
 use borrow.Author.Tests.{le-ltb, lt-leb}
 use Rattle.laws.specs.declared.Way.{Way}
 use Rattle.laws.specs.declared.Way.the-variants.{Interleaver, Deinterleaver}
@@ -11,9 +12,10 @@ use Rattle.sets.specs.declared.Set.{Set}
 use Rattle.sets.specs.declared.Family.{Family}
 use Rattle.sets.specs.declared.Family.the-variants.{Carrier, Turbo}
 use Rattle.sets.specs.Profiles.{familyOf}
+use Rattle.sets.specs.Carried.{other-carrier}
 use Rattle.wcdma_plan.specs.Found.{search-ends}
 use Rattle.walks.specs.declared.Walk.{Walk}
-use Rattle.walks.specs.Rules.{familyRule, ruleOf, ruleIn, barred}
+use Rattle.walks.specs.Rules.{familyRule, ruleOf, ruleIn, oneWay, barred}
 use Rattle.walks.specs.Answer.{planLines, walkLines, oneLines, walkValues, walkedOf, foundOf}
 use Rattle.walks.specs.Passed.{Accepted, Walkable, accepted-front}
 
@@ -34,6 +36,14 @@ never-fails-in Deinterleaver s = refl
 pub plan-clear : (s : Set) → Accepted s → first (planLines s) ≡ clear
 unfolding planLines
 plan-clear s e = accepted-front s _ e ∙ rw (never-fails s)
+
+-- a walk is had but for M of profile 5
+pub walkable-listed : (way : Way) (s : Set) → Accepted s → (way ≡ Deinterleaver → s .profile ≢ 5) → Walkable way s
+walkable-listed way s e n = record { accepted = e; had = go way (λ q. ap oneWay (other-carrier s (n q))) }
+  where
+    go : (way : Way) → (way ≡ Deinterleaver → oneWay (familyOf s) ≡ false) → barred way (familyOf s) ≡ false
+    go Interleaver h = refl
+    go Deinterleaver h = h refl
 
 pub walk-served : (way : Way) (w : Walk) (room : ℕ) → Walkable way (w .set) → w .cell ≤ ruleIn way (w .set) .total
     → walkedOf way w room ≡ done (walkValues way w room)
