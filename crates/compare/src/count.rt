@@ -1,4 +1,5 @@
-// What was compared, and what differed.
+// What was compared, and what differed. `weight` is of what the library itself gave: each address, or byte, times its place, from 1. It tells a
+// comparison that looked at nothing, or at something else, whatever the differences are.
 use crate::num::sum;
 use libc::STDOUT_FILENO;
 
@@ -8,6 +9,7 @@ pub struct Count {
     pub addresses: u64,
     pub cells: u64,
     pub padding: u64,
+    pub weight: u64,
     pub differences: u64,
 }
 
@@ -19,6 +21,7 @@ impl Count {
             addresses: 0,
             cells: 0,
             padding: 0,
+            weight: 0,
             differences: 0,
         }
     }
@@ -30,6 +33,7 @@ impl Count {
             addresses: sum(self.addresses, more.addresses),
             cells: sum(self.cells, more.cells),
             padding: sum(self.padding, more.padding),
+            weight: sum(self.weight, more.weight),
             differences: sum(self.differences, more.differences),
         }
     }
@@ -42,6 +46,7 @@ impl Count {
             addresses: 0,
             cells: 0,
             padding: 0,
+            weight: 0,
             differences: n,
         }
     }
@@ -60,6 +65,7 @@ pub fn walks_line(title: &[u8], c: Count) {
     number(b" addresses ", c.addresses);
     number(b" cells ", c.cells);
     number(b" padding ", c.padding);
+    number(b" weight ", c.weight);
     number(b" differences ", c.differences);
     io::write_all(STDOUT_FILENO, b"\n");
 }
@@ -70,6 +76,7 @@ pub fn short_line(title: &[u8], c: Count) {
     number(b": sets ", c.sets);
     number(b" calls ", c.calls);
     number(b" addresses ", c.addresses);
+    number(b" weight ", c.weight);
     number(b" differences ", c.differences);
     io::write_all(STDOUT_FILENO, b"\n");
 }

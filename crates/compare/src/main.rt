@@ -1,5 +1,6 @@
 // Compares every whole list with a second computation of it, which divides at each address and shares no function with the walk: all sets
-// of profiles 1 to 4 and every K, whole and in slices; and for a dozen sets shorter slices, blocks of bytes and single addresses.
+// of profiles 1 to 4 and every K, whole and in slices; and for a dozen sets shorter slices, blocks of bytes and single addresses. Each
+// comparison is tried on a list that is wrong on purpose as well, and has to count differences there.
 mod count;
 mod moves;
 mod num;
@@ -9,7 +10,9 @@ mod slices;
 mod turbo;
 
 use count::Count;
+use num::move_on;
 use num::sum;
+use second::Whole;
 use sets::Set;
 use sets::Verdict;
 
@@ -81,12 +84,28 @@ fn accepted(set: Set) -> bool {
     }
 }
 
+// The whole list of a set by the second computation; one place off for a list that is wrong on purpose.
+fn list_of(set: Set, back: bool, off: bool, list: &mut [u16]) -> Whole {
+    let w = second::list_of(set, back, list);
+    if off {
+        move_on(list);
+    }
+    w
+}
+
 // One set, in slices of a size, or whole for size 0. A refused set is passed over.
-fn walk_one(set: Set, back: bool, size: usize, list: &mut [u16], slice: &mut [u16]) -> Count {
+fn walk_one(
+    set: Set,
+    back: bool,
+    size: usize,
+    off: bool,
+    list: &mut [u16],
+    slice: &mut [u16],
+) -> Count {
     if !accepted(set) {
         return Count::none();
     }
-    let w = second::list_of(set, back, list);
+    let w = list_of(set, back, off, list);
     if size == 0 {
         return slices::compare(w, back, set.n as usize, list, slice);
     }
@@ -98,7 +117,7 @@ fn walk_each(choice: u32, back: bool, size: usize, list: &mut [u16], slice: &mut
     let mut c = Count::none();
     let mut i = 0;
     while i < n {
-        c = c.with(walk_one(set_at(choice, i), back, size, list, slice));
+        c = c.with(walk_one(set_at(choice, i), back, size, false, list, slice));
         i += 1;
     }
     c
@@ -113,9 +132,9 @@ fn walks_of(title: &[u8], choice: u32, back: bool, size: usize) -> u64 {
 }
 
 // Two blocks for each set, of low bytes and of high.
-fn blocks_one(i: u32, list: &mut [u16]) -> Count {
+fn blocks_one(i: u32, off: bool, list: &mut [u16]) -> Count {
     let set = dozen_at(i / 2);
-    second::list_of(set, false, list);
+    list_of(set, false, off, list);
     let mut src = [0u8; 6144];
     let mut dst = [0u8; 6144];
     let mut again = [0u8; 6144];
@@ -126,7 +145,7 @@ fn blocks_each(list: &mut [u16]) -> Count {
     let mut c = Count::none();
     let mut i = 0;
     while i < 24 {
-        c = c.with(blocks_one(i, list));
+        c = c.with(blocks_one(i, false, list));
         i += 1;
     }
     c
@@ -139,9 +158,9 @@ fn blocks_of(title: &[u8]) -> u64 {
     c.differences
 }
 
-fn singles_one(i: u32, list: &mut [u16]) -> Count {
+fn singles_one(i: u32, off: bool, list: &mut [u16]) -> Count {
     let set = dozen_at(i);
-    second::list_of(set, false, list);
+    list_of(set, false, off, list);
     moves::singles(set, list)
 }
 
@@ -149,7 +168,7 @@ fn singles_each(list: &mut [u16]) -> Count {
     let mut c = Count::none();
     let mut i = 0;
     while i < 12 {
-        c = c.with(singles_one(i, list));
+        c = c.with(singles_one(i, false, list));
         i += 1;
     }
     c
@@ -162,27 +181,63 @@ fn singles_of(title: &[u8]) -> u64 {
     c.differences
 }
 
-fn every_set() -> u64 {
+fn carriers_l() -> u64 {
     let a = walks_of(b"L of profiles 1 to 4, whole", 0, false, 0);
     let b = walks_of(b"L of profiles 1 to 4, slices of 1024", 0, false, 1024);
-    let c = walks_of(b"M of profiles 1 to 4, whole", 0, true, 0);
-    let d = walks_of(b"M of profiles 1 to 4, slices of 1024", 0, true, 1024);
-    let e = walks_of(b"L of profile 5, whole", 1, false, 0);
-    let f = walks_of(b"L of profile 5, slices of 1024", 1, false, 1024);
-    sum(sum(sum(a, b), sum(c, d)), sum(e, f))
+    sum(a, b)
 }
 
-fn dozen() -> u64 {
+fn carriers_m() -> u64 {
+    let a = walks_of(b"M of profiles 1 to 4, whole", 0, true, 0);
+    let b = walks_of(b"M of profiles 1 to 4, slices of 1024", 0, true, 1024);
+    sum(a, b)
+}
+
+fn turbos() -> u64 {
+    let a = walks_of(b"L of profile 5, whole", 1, false, 0);
+    let b = walks_of(b"L of profile 5, slices of 1024", 1, false, 1024);
+    sum(a, b)
+}
+
+fn dozen_walks() -> u64 {
     let a = walks_of(b"L of a dozen, slices of 1", 2, false, 1);
     let b = walks_of(b"L of a dozen, slices of 7", 2, false, 7);
     let c = walks_of(b"L of a dozen, slices of 137", 2, false, 137);
-    let d = blocks_of(b"blocks of bytes of a dozen, there and back");
-    let e = singles_of(b"single addresses of a dozen, there and back");
-    sum(sum(sum(a, b), sum(c, d)), e)
+    sum(a, sum(b, c))
+}
+
+fn dozen_moves() -> u64 {
+    let a = blocks_of(b"blocks of bytes of a dozen, there and back");
+    let b = singles_of(b"single addresses of a dozen, there and back");
+    sum(a, b)
+}
+
+// K 40 against its list one place off: what is counted here is in no total.
+fn wrong_walk() {
+    let mut list = [0u16; 12000];
+    let mut slice = [0u16; 6144];
+    let c = walk_one(turbo_set(40), false, 0, true, &mut list, &mut slice);
+    count::walks_line(b"wrong on purpose, L of K 40", c);
+}
+
+fn wrong_block() {
+    let mut list = [0u16; 12000];
+    let c = blocks_one(0, true, &mut list);
+    count::short_line(b"wrong on purpose, a block of K 40", c);
+}
+
+fn wrong_singles() {
+    let mut list = [0u16; 12000];
+    let c = singles_one(0, true, &mut list);
+    count::short_line(b"wrong on purpose, single addresses of K 40", c);
 }
 
 fn main() {
-    let all = every_set();
-    let some = dozen();
-    count::last_line(sum(all, some));
+    let carriers = sum(carriers_l(), carriers_m());
+    let every = sum(carriers, turbos());
+    let dozen = sum(dozen_walks(), dozen_moves());
+    wrong_walk();
+    wrong_block();
+    wrong_singles();
+    count::last_line(sum(every, dozen));
 }

@@ -7,6 +7,7 @@ use crate::num::over;
 use crate::num::short;
 use crate::num::sum;
 use crate::num::times;
+use crate::num::weigh;
 use blocks::Moved;
 use sets::Set;
 use walks::Found;
@@ -67,6 +68,20 @@ fn wrong_bytes(src: &[u8], dst: &[u8]) -> u64 {
     wrong
 }
 
+fn wrong_block(list: &[u16], src: &[u8], dst: &[u8], again: &[u8]) -> u64 {
+    sum(wrong_outputs(list, src, dst), wrong_bytes(src, again))
+}
+
+fn weight(dst: &[u8]) -> u64 {
+    let mut all: u64 = 0;
+    let mut t = 0;
+    while t < dst.len() {
+        all = sum(all, weigh(t, byte(dst, t)));
+        t += 1;
+    }
+    all
+}
+
 fn refused(m: Moved) -> u64 {
     match m {
         Moved::Done => 0,
@@ -88,13 +103,14 @@ fn block(
     clear(again);
     let first = refused(blocks::bytes::interleave(set, src, dst));
     let second = refused(blocks::bytes::deinterleave(set, dst, again));
-    let wrong = sum(wrong_outputs(list, src, dst), wrong_bytes(src, again));
+    let wrong = wrong_block(list, src, dst, again);
     Count {
         sets: if high { 0 } else { 1 },
         calls: 2,
         addresses: dst.len() as u64,
         cells: 0,
         padding: 0,
+        weight: weight(dst),
         differences: sum(wrong, sum(first, second)),
     }
 }
@@ -122,10 +138,11 @@ pub fn block_of(
     )
 }
 
-fn wrong_found(f: Found, a: usize) -> u64 {
+// The address that was found; a refusal is none that is looked for.
+fn found(f: Found) -> usize {
     match f {
-        Found::At(x) => differ(x as usize, a),
-        Found::Refused(_) => 1,
+        Found::At(x) => x as usize,
+        Found::Refused(_) => 65535,
     }
 }
 
@@ -137,15 +154,16 @@ fn single(set: Set, list: &[u16], i: usize) -> Count {
     }
     let t = over(times(i, n - 1), 19);
     let a = at(list, t);
-    let there = wrong_found(walks::address_l(set, short(t)), a);
-    let back = wrong_found(walks::address_m(set, short(a)), t);
+    let there = found(walks::address_l(set, short(t)));
+    let back = found(walks::address_m(set, short(a)));
     Count {
         sets: if i == 0 { 1 } else { 0 },
         calls: 2,
         addresses: 2,
         cells: 0,
         padding: 0,
-        differences: sum(there, back),
+        weight: sum(weigh(t, there), weigh(a, back)),
+        differences: sum(differ(there, a), differ(back, t)),
     }
 }
 

@@ -56,6 +56,21 @@ pub fn put(table: &mut [u16], i: usize, x: usize) {
     }
 }
 
+// Every number of a table moved to the place before it.
+pub fn move_on(table: &mut [u16]) {
+    let mut i = 0;
+    while i < table.len() {
+        let x = at(table, plus(i, 1));
+        put(table, i, x);
+        i += 1;
+    }
+}
+
+// What a number weighs at a place, counted from 0.
+pub fn weigh(i: usize, x: usize) -> u64 {
+    times(plus(i, 1), x) as u64
+}
+
 // 1 where two numbers differ.
 pub fn differ(a: usize, b: usize) -> u64 {
     if a == b { 0 } else { 1 }

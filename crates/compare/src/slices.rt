@@ -6,6 +6,7 @@ use crate::num::least;
 use crate::num::minus;
 use crate::num::plus;
 use crate::num::sum;
+use crate::num::weigh;
 use crate::second::ENDS;
 use crate::second::Whole;
 use walks::Walk;
@@ -28,6 +29,17 @@ fn wrong_addresses(list: &[u16], from: usize, slice: &[u16], n: usize) -> u64 {
         i += 1;
     }
     wrong
+}
+
+// The weight of the first n addresses of the slice, which stand in the list from a place on.
+fn weight(from: usize, slice: &[u16], n: usize) -> u64 {
+    let mut all: u64 = 0;
+    let mut i = 0;
+    while i < n {
+        all = sum(all, weigh(plus(from, i), at(slice, i)));
+        i += 1;
+    }
+    all
 }
 
 // The cell that a call must stop at: right after the address that fills the slice, or the total.
@@ -76,6 +88,7 @@ fn judge(
         addresses: n as u64,
         cells: cells as u64,
         padding: minus(cells, n) as u64,
+        weight: weight(given, slice, n),
         differences: wrong,
     };
     let count = now.count.with(more);
@@ -141,6 +154,7 @@ fn end(w: Whole, now: Going) -> Count {
         addresses: 0,
         cells: 0,
         padding: 0,
+        weight: 0,
         differences: wrong,
     };
     c.with(more)

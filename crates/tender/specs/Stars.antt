@@ -1,5 +1,6 @@
--- The starred cases of document 01, "Checked by hand", in one proved table, over the definitions that the public contracts cite. A row says a
--- question, a set, an argument and the numbers that 01 expects. `refl` at its end: the definitions compute to those numbers. Assumes nothing.
+-- The starred cases of document 01, "Checked by hand", in one proved table, over the definitions that the public contracts cite, and a second
+-- table of ours for what 01's leave out. A row says a question, a set, an argument and the numbers that are expected. `refl` at its end: the
+-- definitions compute to those numbers. Assumes nothing.
 use Prim.Native.Nat.{ℕ, _-_, _≤_}
 use mathlib.Core.Bool.{cond}
 use mathlib.Core.List.{List, [], _∷_}
@@ -10,6 +11,7 @@ use Rattle.laws.specs.Euclid.{gcdIn, gcd}
 use Rattle.laws.specs.Keep.{keep, padding}
 use Rattle.laws.specs.Members.{All}
 use Rattle.laws.specs.Once.{inside}
+use Rattle.laws.specs.Position.{position}
 use Rattle.sets.specs.declared.Set.{Set}
 use Rattle.sets.specs.Profiles.{familyOf, rowsOf, groupOf}
 use Rattle.carrier.specs.Formula.{firstStep, secondStep, carrierM, backStep, lastStep, carrierL}
@@ -17,7 +19,7 @@ use Rattle.wcdma_plan.specs.Rectangle.{rows, primes, firstPrime, prime, colsOf,
 use Rattle.wcdma_plan.specs.Powers.{power, firstOne, generates, rootFrom, root}
 use Rattle.wcdma_plan.specs.Numbers.{noDivisor, isPrime, passes, nextIn, nextQ, qOf}
 use Rattle.wcdma_plan.specs.Orders.{rowOrders, whichOrder, orderOf, rowAt}
-use Rattle.wcdma.specs.Turbo.{entry, address, padCells}
+use Rattle.wcdma.specs.Turbo.{entry, address, addresses, turboM, padCells}
 use Rattle.wcdma.specs.Pads.{cells-are}
 use Rattle.walks.specs.Rules.{ruleOf}
 use Rattle.walks.specs.Rules as rules
@@ -62,7 +64,13 @@ pub record Row : Type 0 where
 abbrev pub row : (q : Question) (s : Set) (x : ℕ) (e : List ℕ) → answer q s x ≡ e → Row
 row q s x e h = record { question = q; set = s; argument = x; expected = e; holds = h }
 
--- a set of profile 3, 4 or 5; b: bits, n: N, k: K
+-- a set of profile 1 to 5; b: bits, n: N, k: K
+abbrev pub ofdm : ℕ → ℕ → Set
+ofdm b n = record { profile = 1; bits = b; n = n }
+
+abbrev pub ofdma : ℕ → ℕ → Set
+ofdma b n = record { profile = 2; bits = b; n = n }
+
 abbrev pub wlan : ℕ → ℕ → Set
 wlan b n = record { profile = 3; bits = b; n = n }
 
@@ -127,10 +135,54 @@ stars =
     ∷ row padded (turbo 5114) 0 (6 ∷ []) (counted 5114 (omega arith))
     ∷ []
 
--- every row holds
+-- cases of ours, in the same form: their numbers were computed from 01's text by another program than the definitions
+unfoldable pub ours : List Row
+unfolding answer padCells padding listL ruleOf familyOf keep rowsOf groupOf firstStep secondStep carrierM backStep lastStep carrierL rows primes firstPrime prime colsOf cols cells power firstOne generates rootFrom root gcdIn gcd noDivisor isPrime passes nextIn nextQ qOf rowOrders whichOrder orderOf rowAt entry address addresses turboM position
+ours =
+    -- Profile 1, d 12: bits 6, N 1,152, where s is 3; bits 4, N 768, where s is 2
+    row M (ofdm 6 1152) 1 (98 ∷ []) refl
+    ∷ row M (ofdm 6 1152) 2 (193 ∷ []) refl
+    ∷ row M (ofdm 6 1152) 1151 (1149 ∷ []) refl
+    ∷ row L (ofdm 6 1152) 97 (25 ∷ []) refl
+    ∷ row L (ofdm 6 1152) 1151 (1139 ∷ []) refl
+    ∷ row M (ofdm 4 768) 1 (65 ∷ []) refl
+    ∷ row L (ofdm 4 768) 66 (37 ∷ []) refl
+    -- Profile 2, d 16: bits 2, 4, 6
+    ∷ row M (ofdma 2 96) 1 (6 ∷ []) refl
+    ∷ row L (ofdma 2 96) 7 (17 ∷ []) refl
+    ∷ row M (ofdma 4 576) 1 (37 ∷ []) refl
+    ∷ row M (ofdma 4 576) 575 (574 ∷ []) refl
+    ∷ row L (ofdma 4 576) 38 (49 ∷ []) refl
+    ∷ row M (ofdma 6 576) 1 (38 ∷ []) refl
+    ∷ row M (ofdma 6 576) 3 (108 ∷ []) refl
+    ∷ row L (ofdma 6 576) 37 (33 ∷ []) refl
+    -- M of profile 5
+    ∷ row M (turbo 40) 35 (5 ∷ []) refl
+    -- K 201: the second row order of twenty; C = p. The first twenty addresses, in 22 cells
+    ∷ row p (turbo 201) 0 (11 ∷ []) refl
+    ∷ row give (turbo 201) 22 (100 ∷ 155 ∷ 45 ∷ 1 ∷ 23 ∷ 56 ∷ 78 ∷ 133 ∷ 199 ∷ 111 ∷ 89 ∷ 144 ∷ 188 ∷ 34 ∷ 12 ∷ 177 ∷ 67 ∷ 166 ∷ 122 ∷ 106 ∷ []) refl
+    -- K 530, the last of R 10, and 531, the first of R 20 above it
+    ∷ row R (turbo 530) 0 (10 ∷ []) refl
+    ∷ row p (turbo 530) 0 (53 ∷ []) refl
+    ∷ row total (turbo 530) 0 (530 ∷ []) refl
+    ∷ row give (turbo 530) 20 (478 ∷ 425 ∷ 372 ∷ 319 ∷ 266 ∷ 213 ∷ 160 ∷ 107 ∷ 54 ∷ 1 ∷ 479 ∷ 446 ∷ 405 ∷ 321 ∷ 277 ∷ 245 ∷ 204 ∷ 127 ∷ 72 ∷ 39 ∷ []) refl
+    ∷ row R (turbo 531) 0 (20 ∷ []) refl
+    ∷ row p (turbo 531) 0 (29 ∷ []) refl
+    ∷ row total (turbo 531) 0 (560 ∷ []) refl
+    ∷ row give (turbo 531) 22 (252 ∷ 392 ∷ 112 ∷ 0 ∷ 56 ∷ 140 ∷ 196 ∷ 336 ∷ 504 ∷ 280 ∷ 224 ∷ 364 ∷ 476 ∷ 84 ∷ 28 ∷ 448 ∷ 168 ∷ 420 ∷ 308 ∷ 269 ∷ []) refl
+    -- K 2,281: the first row order of twenty; C = p - 1
+    ∷ row p (turbo 2281) 0 (127 ∷ []) refl
+    ∷ row total (turbo 2281) 0 (2520 ∷ []) refl
+    ∷ row give (turbo 2281) 22 (1134 ∷ 1764 ∷ 504 ∷ 0 ∷ 252 ∷ 630 ∷ 882 ∷ 1512 ∷ 2268 ∷ 2016 ∷ 1638 ∷ 2142 ∷ 1890 ∷ 378 ∷ 126 ∷ 756 ∷ 1386 ∷ 1008 ∷ 1260 ∷ 1242 ∷ []) refl
+    ∷ []
+
+-- every row of such a table holds
+rows-hold : (rs : List Row) → All (λ r. answer (r .question) (r .set) (r .argument) ≡ r .expected) rs
+rows-hold [] = tt
+rows-hold (r ∷ rs) = (r .holds, rows-hold rs)
+
 pub stars-hold : All (λ r. answer (r .question) (r .set) (r .argument) ≡ r .expected) stars
-stars-hold = each stars
-  where
-    each : (rs : List Row) → All (λ r. answer (r .question) (r .set) (r .argument) ≡ r .expected) rs
-    each [] = tt
-    each (r ∷ rs) = (r .holds, each rs)
+stars-hold = rows-hold stars
+
+pub ours-hold : All (λ r. answer (r .question) (r .set) (r .argument) ≡ r .expected) ours
+ours-hold = rows-hold ours
