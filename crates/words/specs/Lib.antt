@@ -1,4 +1,6 @@
+pub mod Appended
 pub mod Decimal
+pub mod Gathered
 pub mod Room
 pub mod Spelled
 pub mod Words
