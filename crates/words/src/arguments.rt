@@ -2,17 +2,26 @@
 use super::line::ROOM;
 use super::line::append;
 ghost use Prim.Native.Nat.{_≤_};
+ghost use Rattle.words.specs.Appended.{Appended};
+ghost use Rattle.words.specs.Joined.{shown, WithArgument, Joined};
 
-// A line with argument i after it. One that is empty or too long for any command is put as a question mark, which no command takes.
+// A line with a word after it. One that is empty is put as a question mark, which no command takes.
+fn with_word(room: &mut [u8; ROOM], from: usize, word: &[u8]) -> usize
+    ensures { λ r. ⌜ Appended (now (room .entry)) from (shown (now (word .entry))) (now (room .exit)) r ⌝ }
+{
+    if word.len() == 0 {
+        return append(room, from, b"?");
+    }
+    append(room, from, word)
+}
+
+// A line with argument i after it, and a space. One that is too long for any command counts as empty.
 fn with_argument(room: &mut [u8; ROOM], from: usize, i: usize) -> usize
-    ensures { λ r. ⌜ r ≤ 512 ⌝ }
+    ensures { λ r. ⌜ WithArgument (now (room .entry)) from (now (room .exit)) r ⌝ }
 {
     let mut one = [0u8; 48];
     let k = os::arg(i, &mut one);
-    let mut at = append(room, from, &one[..k]);
-    if k == 0 {
-        at = append(room, at, b"?");
-    }
+    let at = with_word(room, from, &one[..k]);
     append(room, at, b" ")
 }
 
@@ -24,7 +33,7 @@ fn up_to_nine(n: usize) -> usize
 
 // The arguments as a line, a space after each. Eight are looked at, which is more than any command takes.
 pub fn join(room: &mut [u8; ROOM]) -> usize
-    ensures { λ r. ⌜ r ≤ 512 ⌝ }
+    ensures { λ r. ⌜ Joined (now (room .entry)) (now (room .exit)) r ⌝ }
 {
     let n = up_to_nine(os::arg_count());
     let mut at = 0;

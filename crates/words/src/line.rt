@@ -4,7 +4,8 @@ ghost use mathlib.Core.Path.{_≡_};
 ghost use Prim.Native.Nat.{_+_, _≤_};
 ghost use lib.ListN.{length, take, drop};
 ghost use Rattle.words.specs.Words.{ofWord, ends, wordOf};
-ghost use Rattle.words.specs.Room.{Fits};
+ghost use Rattle.words.specs.Appended.{Appended};
+ghost use Rattle.words.specs.Room.{Read};
 
 // A line has to be shorter.
 pub const ROOM: usize = 512;
@@ -88,7 +89,7 @@ fn skip_line() {
 
 // Reads a line, without its end. It takes no byte after the line, so that an answer can come before the next line is asked for.
 pub fn read(room: &mut [u8; ROOM]) -> Line
-    ensures { λ r. ⌜ Fits r ⌝ }
+    ensures { λ r. ⌜ Read (now (room .entry)) (now (room .exit)) r ⌝ }
 {
     let mut at = 0;
     while at < ROOM {
@@ -111,7 +112,7 @@ pub fn read(room: &mut [u8; ROOM]) -> Line
 
 // Puts s after the first `from` bytes of a line, as far as there is room, and answers where it ends.
 pub fn append(room: &mut [u8; ROOM], from: usize, s: &[u8]) -> usize
-    ensures { λ r. ⌜ r ≤ 512 ⌝ }
+    ensures { λ r. ⌜ Appended (now (room .entry)) from (now (s .entry)) (now (room .exit)) r ⌝ }
 {
     let mut at = from;
     let mut i = 0;

@@ -1,7 +1,7 @@
 // Text that is gathered before it is written: a system call for each part of a line would cost more than the line.
 use super::line::first;
 use libc::STDOUT_FILENO;
-ghost use Prim.Native.Nat.{_≤_};
+ghost use Rattle.words.specs.Gathered.{Put, PutNumber};
 
 // The room that text is gathered in.
 pub const ROOM: usize = 4096;
@@ -17,7 +17,7 @@ pub fn write(fd: i32, s: &[u8]) -> bool {
 
 // Puts s after the `from` bytes that wait at the start of the room, and answers how many wait then. A full room is written first.
 pub fn put(room: &mut [u8; ROOM], from: usize, s: &[u8]) -> usize
-    ensures { λ r. ⌜ r ≤ 4096 ⌝ }
+    ensures { λ r. ⌜ Put (now (room .entry)) from (now (s .entry)) (now (room .exit)) r ⌝ }
 {
     let mut at = from;
     let mut i = 0;
@@ -38,7 +38,7 @@ pub fn put(room: &mut [u8; ROOM], from: usize, s: &[u8]) -> usize
 
 // The same for a number in decimal.
 pub fn put_number(room: &mut [u8; ROOM], from: usize, n: u64) -> usize
-    ensures { λ r. ⌜ r ≤ 4096 ⌝ }
+    ensures { λ r. ⌜ PutNumber (now (room .entry)) from n (now (room .exit)) r ⌝ }
 {
     let mut digits = [0u8; 20];
     let k = io::decimal(n, &mut digits);

@@ -1,5 +1,7 @@
 use borrow.Author.Needs.{needs}
 use Prim.Native.Nat.{_≤_, _-_}
+use native.Mathlib.Omega.{arith}
+use Rattle.words.specs.Joined.{Joined, Going, joined-none, joined-more}
 use Rattle.words.proofs.arguments.join.Statement.{statement}
 use Rattle.words.proofs.arguments.join.Tie as tie
 use Rattle.words.proofs.arguments.join.Reads as reads
@@ -9,7 +11,7 @@ use Rattle.words.proofs.arguments.up_to_nine.Reads as up-to-nine-reads
 use Rattle.words.proofs.arguments.with_argument.Reads as with-argument-reads
 
 abbrev Inv-loop : tie.InvT-loop
-Inv-loop room₀ n at₀ i₀ room at i = at ≤ 512
+Inv-loop room₀ n at₀ i₀ room at i = Going room₀ n room at i
 
 abbrev μ-loop : tie.MeasureT-loop
 μ-loop room₀ n at₀ i₀ room at i = n - i
@@ -21,7 +23,7 @@ up-to-nine-requires : tie.Need-up-to-nine-requires Inv-loop μ-loop
 up-to-nine-requires c κs = search needs
 
 loop-holds : tie.Need-loop-holds Inv-loop μ-loop
-loop-holds c = search needs
+loop-holds c = joined-none _ _ (c .up-to-nine .ensures)
 
 with-argument-requires : tie.Need-with-argument-requires Inv-loop μ-loop
 with-argument-requires c κs = search needs
@@ -33,10 +35,10 @@ loop-less : tie.Need-loop-less Inv-loop μ-loop
 loop-less c = search needs
 
 loop-again : tie.Need-loop-again Inv-loop μ-loop
-loop-again c = search needs
+loop-again c = joined-more (c .before .before .before .loop .inv) (omega arith) (c .with-argument .ensures)
 
 returns : tie.Need-returns Inv-loop μ-loop
-returns c = search needs
+returns c = c .before .loop .inv .so-far
 
 pub join-spec : {M : Type 1} → statement M
 join-spec =

@@ -1,22 +1,24 @@
 use borrow.Author.Needs.{needs}
-use Prim.Native.Nat.{_≤_, _-_}
+use Prim.Native.Nat.{_-_}
+use native.Mathlib.Omega.{arith}
 use lib.ListN.{length}
+use Rattle.words.specs.Appended.{Appending, append-first, append-goes, append-full, append-done}
 use Rattle.words.proofs.line.append.Statement.{statement}
 use Rattle.words.proofs.line.append.Tie as tie
 use Rattle.words.proofs.line.append.Reads as reads
 use Rattle.words.proofs.line.append.Lts as lts
 
 abbrev Inv-loop : tie.InvT-loop
-Inv-loop room₀ from s at₀ i₀ room at i = i ≤ length s
+Inv-loop room₀ from s at₀ i₀ room at i = Appending room₀ from s room at i
 
 abbrev μ-loop : tie.MeasureT-loop
 μ-loop room₀ from s at₀ i₀ room at i = length s - i
 
 loop-holds : tie.Need-loop-holds Inv-loop μ-loop
-loop-holds c = search needs
+loop-holds c = append-first _ _ _
 
 returns : tie.Need-returns Inv-loop μ-loop
-returns c = search needs
+returns c = append-full (c .before .before .loop .inv) (omega arith) (omega arith)
 
 shared-slice-read-room : tie.Need-shared-slice-read-room Inv-loop μ-loop
 shared-slice-read-room c = search needs
@@ -34,13 +36,13 @@ loop-less : tie.Need-loop-less Inv-loop μ-loop
 loop-less c = search needs
 
 loop-again : tie.Need-loop-again Inv-loop μ-loop
-loop-again c = search needs
+loop-again c = append-goes (c .before .before .before .loop .inv) (omega arith) (omega arith)
 
 returns-2 : tie.Need-returns-2 Inv-loop μ-loop
-returns-2 c = search needs
+returns-2 c = append-done (c .before .before .loop .inv) (omega arith) (omega arith)
 
 returns-3 : tie.Need-returns-3 Inv-loop μ-loop
-returns-3 c = search needs
+returns-3 c = append-done (c .before .before .loop .inv) (omega arith) (omega arith)
 
 pub append-spec : {M : Type 1} → statement M
 append-spec =

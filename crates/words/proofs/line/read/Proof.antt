@@ -1,5 +1,7 @@
 use borrow.Author.Needs.{needs}
 use Prim.Native.Nat.{_≤_, _-_}
+use native.Mathlib.Omega.{arith}
+use Rattle.words.specs.Room.{Taken, taken-none, taken-more, taken-as, taken-nothing}
 use Rattle.words.proofs.line.read.Statement.{statement}
 use Rattle.words.proofs.line.read.Tie as tie
 use Rattle.words.proofs.line.read.Reads as reads
@@ -8,25 +10,25 @@ use Rattle.words.proofs.line.next_byte.Reads as next-byte-reads
 use Rattle.words.proofs.line.skip_line.Reads as skip-line-reads
 
 abbrev Inv-loop : tie.InvT-loop
-Inv-loop room₀ at₀ room at = at ≤ 512
+Inv-loop room₀ at₀ room at = (at ≤ 512) × Taken room₀ room at
 
 abbrev μ-loop : tie.MeasureT-loop
 μ-loop room₀ at₀ room at = 512 - at
 
 loop-holds : tie.Need-loop-holds Inv-loop μ-loop
-loop-holds c = search needs
+loop-holds c = (omega arith, taken-none _)
 
 next-byte-requires : tie.Need-next-byte-requires Inv-loop μ-loop
 next-byte-requires c κs = search needs
 
 returns : tie.Need-returns Inv-loop μ-loop
-returns c = search needs
+returns c = (omega arith, c .before .before .before .loop .inv .1)
 
 returns-2 : tie.Need-returns-2 Inv-loop μ-loop
-returns-2 c = search needs
+returns-2 c = taken-nothing (taken-as (c .before .before .before .before .before .loop .inv .1) (omega arith))
 
 returns-3 : tie.Need-returns-3 Inv-loop μ-loop
-returns-3 c = search needs
+returns-3 c = (omega arith, c .before .before .before .before .before .loop .inv .1)
 
 cast-room : tie.Need-cast-room Inv-loop μ-loop
 cast-room c = search needs
@@ -41,13 +43,13 @@ loop-less : tie.Need-loop-less Inv-loop μ-loop
 loop-less c = search needs
 
 loop-again : tie.Need-loop-again Inv-loop μ-loop
-loop-again c = search needs
+loop-again c = (omega arith, taken-more (c .before .before .before .before .loop .inv .1) (λ q. omega arith))
 
 skip-line-requires : tie.Need-skip-line-requires Inv-loop μ-loop
 skip-line-requires c κs = search needs
 
 returns-4 : tie.Need-returns-4 Inv-loop μ-loop
-returns-4 c = search needs
+returns-4 c = taken-as (c .before .before .loop .inv .1) (omega arith)
 
 pub read-spec : {M : Type 1} → statement M
 read-spec =
