@@ -3,7 +3,7 @@ mod looks;
 mod nothing;
 mod words;
 
-use blocks::Moved;
+use tables::Moved;
 use looks::MARK;
 use sets::Set;
 use sets::Verdict;

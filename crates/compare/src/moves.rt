@@ -8,7 +8,7 @@ use crate::num::short;
 use crate::num::sum;
 use crate::num::times;
 use crate::num::weigh;
-use blocks::Moved;
+use tables::Moved;
 use sets::Set;
 use walks::Found;
 

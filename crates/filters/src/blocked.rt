@@ -2,7 +2,7 @@
 use super::read_some;
 use super::refused;
 use super::write_out;
-use blocks::Moved;
+use tables::Moved;
 use sets::Set;
 use sets::Verdict;
 ghost use Prim.Native.Nat.{_≤_, _+_};
