@@ -4,7 +4,6 @@ use mathlib.Core.Path.{_≡_, _∙_, sym, ap}
 use borrow.Author.Needs.{needs}
 use borrow.Author.Tests.{not-true, not-false}
 use Rattle.laws.specs.Outcome.{refused}
-use Rattle.sets.specs.Size.{sizeOf}
 use Rattle.sets.specs.Verdict.{verdictOf, setLines}
 use Rattle.sets.specs.Listed.{bits-small}
 use Rattle.sets.proofs.test.Statement.{statement}
@@ -43,7 +42,7 @@ returns-2 c =
     )
 
 size-listed-requires : tie.Need-size-listed-requires
-size-listed-requires c κs = bits-small (sizeOf _) (passes (c .before .bits-listed .ensures) (c .if2 .left))
+size-listed-requires c κs = bits-small _ (passes (c .before .bits-listed .ensures) (c .if2 .left))
 
 refusal-of-requires-3 : tie.Need-refusal-of-requires-3
 refusal-of-requires-3 c κs = search needs
