@@ -1,4 +1,4 @@
--- The loops of the walk for L: along a part of a row, and row by row, d lanes of N/d cells. Assumes nothing.
+-- The loops of the walk for L: along a part of a row, and row by row, d lanes of N/d cells.
 use mathlib.Core.Path.{_≡_, sym, ap, _∙_}
 use mathlib.Core.List.{List}
 use Prim.Native.Nat.{ℕ, _+_, _-_, _*_, _/_, _%_, _≤_, _<_}

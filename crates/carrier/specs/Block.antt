@@ -1,5 +1,5 @@
 -- What the leaf functions require: a block that the laws hold for, small enough for 16-bit addresses; and what their parts require, a cell of
--- it or the one behind its last. Assumes nothing.
+-- it or the one behind its last.
 use Prim.Native.Nat.{ℕ, _≤_, _<_}
 use Rattle.laws.specs.Sized.{Sized}
 

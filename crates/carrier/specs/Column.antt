@@ -1,5 +1,5 @@
 -- The walk for M, a column at a time. Input k is row k mod d of column k/d; c is N/d. A column's group of s is turned back by one with each
--- row. The address is base + turn, both stepped by additions. Assumes nothing.
+-- row. The address is base + turn, both stepped by additions.
 use mathlib.Core.Path.{_≡_, refl, sym, ap, _∙_}
 use Prim.Native.Nat.{ℕ, _+_, _-_, _*_, _/_, _%_, _≤_, _<_}
 use native.Mathlib.Nat.{mod-lt, mod-le, mul-zero, mul-le-mul-left, mul-add-mod-self-left, add-mul-mod-self-left, div-add-mod}

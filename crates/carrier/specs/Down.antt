@@ -1,4 +1,4 @@
--- The loops of the walk for M: down a part of a column, and column by column, N/d lanes of d cells. Assumes nothing.
+-- The loops of the walk for M: down a part of a column, and column by column, N/d lanes of d cells.
 use mathlib.Core.Path.{_≡_, sym, ap, _∙_, subst}
 use mathlib.Core.List.{List}
 use Prim.Native.Nat.{ℕ, _+_, _-_, _*_, _/_, _%_, _≤_, _<_}

@@ -1,5 +1,5 @@
 -- Each index is used once: for every d, N and s with N a positive multiple of d and N/d a multiple of s, L and M undo each other below N,
--- and no subtraction of the formulas stops at 0. Assumes nothing.
+-- and no subtraction of the formulas stops at 0.
 use mathlib.Core.Path.{sym, subst}
 use Prim.Native.Nat.{ℕ, _+_, _-_, _*_, _/_, _≤_, _<_}
 use native.Mathlib.Nat.{mul-le-mul-right, div-le-of-le-mul, mul-div-le}

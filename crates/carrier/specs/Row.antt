@@ -1,5 +1,5 @@
 -- The walk for L, a row of the output at a time. Cell t is column t mod c of row t/c, c being N/d; a column's group of s is turned by its
--- row. The address is base + lift, both stepped by additions. Assumes nothing.
+-- row. The address is base + lift, both stepped by additions.
 use mathlib.Core.Path.{_≡_, refl, sym, ap, _∙_}
 use Prim.Native.Nat.{ℕ, _+_, _-_, _*_, _/_, _%_, _≤_, _<_}
 use native.Mathlib.Nat.{mod-add-mod, mod-lt, mod-le, mod-self, mod-eq-of-lt, mul-div-cancel-left, mul-le-mul-left, mul-zero, mul-add-mod-self-left, div-add-mod}

@@ -1,5 +1,5 @@
 -- The laws of the two steps, over any d, s and b above 0, with N = d·(s·b): a position is its three digits. q below d is the row of the
--- output, s·u + v its column, v below s and u below b. Assumes nothing.
+-- output, s·u + v its column, v below s and u below b.
 use mathlib.Core.Path.{_≡_, refl, ap, _∙_, subst}
 use Prim.Native.Nat.{ℕ, _+_, _-_, _*_, _/_, _%_, _≤_, _<_}
 use native.Mathlib.Nat.{mod-add-mod, mod-mod, mod-lt, mod-eq-of-lt, div-add-mod, mul-add-mod-self-left, mul-le-mul-left, mul-div-mul-left, mul-div-cancel-left, mul-pos}

@@ -1,5 +1,4 @@
 -- The walk for L along a row where s is 1: nothing is turned, and each address is d more than the one before. Rests on Along.
--- Assumes nothing.
 use mathlib.Core.Path.{_≡_, sym, ap, _∙_, subst}
 use mathlib.Core.List.{List}
 use Prim.Native.Nat.{ℕ, _+_, _-_, _*_, _%_, _≤_, _<_}

@@ -15,7 +15,8 @@ ghost use Rattle.carrier.specs.Along.{AlongIn, Along};
 // The turn's part of the address at the next column: d more, or 0 after the last.
 fn lift_up(lift: usize, d: usize, top: usize) -> usize
     requires { ⌜ (lift < 65536) × (d < 65536) ⌝ }
-    ensures { λ r. ⌜ ((s turn : ℕ) → 0 < d → turn < s → lift ≡ d * turn → top ≡ d * (s - 1) → r ≡ d * ((turn + 1) % s)) ⌝ }
+    ensures { λ r. ⌜ ((s turn : ℕ) → 0 < d → turn < s → lift ≡ d * turn → top ≡ d * (s - 1)
+        → r ≡ d * ((turn + 1) % s)) ⌝ }
 {
     if lift == top { 0 } else { lift + d }
 }
@@ -71,7 +72,8 @@ impl RowSpot {
     // From the end of a row to the first column of the next.
     fn next_row(self, d: usize, top: usize, row: usize) -> Self
         requires { ⌜ (self .lift < 65536) × (d < 65536) × (row < 65536) ⌝ }
-        ensures { λ r. ⌜ ((n s : ℕ) → Sized d n s → top ≡ d * (s - 1) → RowAt d s row (n / d) self → RowAt d s (row + 1) 0 r) ⌝ }
+        ensures { λ r. ⌜ ((n s : ℕ) → Sized d n s → top ≡ d * (s - 1) → RowAt d s row (n / d) self
+            → RowAt d s (row + 1) 0 r) ⌝ }
     {
         let lift = lift_up(self.lift, d, top);
         RowSpot {

@@ -3,10 +3,10 @@ mod looks;
 mod nothing;
 mod words;
 
-use tables::Moved;
 use looks::MARK;
 use sets::Set;
 use sets::Verdict;
+use tables::Moved;
 use walks::Found;
 use walks::Walk;
 use walks::Walked;

@@ -1,5 +1,5 @@
 -- Laws of a run, over any record and any bytes: it may be cut anywhere; a record that stands for another gives the same run; changing every
--- byte before it is changing every byte after it. Assumes nothing.
+-- byte before it is changing every byte after it.
 use Prim.Native.Nat.{ℕ, zero, suc, _+_}
 use mathlib.Core.Path.{_≡_, refl, sym, ap, _∙_}
 use mathlib.Core.List.{List, [], _∷_, _++_, map}

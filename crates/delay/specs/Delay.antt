@@ -1,5 +1,5 @@
 -- What comes out of a machine that starts with its store full of f: byte t is input byte t - delay, or f where there is no such byte.
--- Over the way, the number of branches and the step; the record is t itself, unbounded. Assumes nothing.
+-- Over the way, the number of branches and the step; the record is t itself, unbounded.
 use Prim.Native.Nat.{ℕ, zero, suc, _+_, _*_, _/_, _%_, _≤_, _<_}
 use mathlib.Core.Path.{_≡_, refl, sym, ap, _∙_}
 use mathlib.Core.Logic.{_≢_}

@@ -1,5 +1,5 @@
 -- Ring by ring: what the bytes of one ring do, over the number of branches b and the step s. Bytes of different rings never meet, so a feed
--- may take the rings one after the other. Assumes nothing: these are definitions.
+-- may take the rings one after the other. These are definitions.
 use Prim.Native.Nat.{ℕ, suc, _+_, _*_, _/_, _%_, _≤_, _<_}
 use mathlib.Core.Bool.{cond}
 use mathlib.Core.List.{List}

@@ -1,4 +1,4 @@
--- One ring's bytes, part way, and the rings one after the other. Over the number of branches and the step. Assumes nothing.
+-- One ring's bytes, part way, and the rings one after the other. Over the number of branches and the step.
 use Prim.Native.Nat.{ℕ, zero, suc, _+_, _≤_, _<_}
 use mathlib.Core.Path.{_≡_, refl, sym, ap, _∙_}
 use Rattle.laws.specs.declared.Way.{Way}

@@ -1,4 +1,4 @@
--- The first byte of a ring, from byte t on, over the number of branches. Assumes nothing.
+-- The first byte of a ring, from byte t on, over the number of branches.
 use Prim.Native.Nat.{ℕ, suc, _+_, _-_, _*_, _/_, _%_, _≤_, _<_}
 use mathlib.Core.Path.{_≡_, refl}
 use native.Mathlib.Nat.{mod-lt, div-add-mod', suc-mul}

@@ -1,5 +1,5 @@
 -- What holds at each turn of a feed's loops: over a stretch of neighbouring places, over a ring, over the bytes that pass through, over the
--- rings. Over the number of branches and the step. Assumes nothing.
+-- rings. Over the number of branches and the step.
 use Prim.Native.Nat.{ℕ, suc, _+_, _-_, _*_, _/_, _%_, _≤_, _<_}
 use mathlib.Core.Path.{_≡_, refl, ap, _∙_}
 use mathlib.Core.List.{List}

@@ -1,5 +1,5 @@
 -- The branch machine, over the number of branches and the step; 12 branches and steps of 17 bytes are ETSI EN 300 744, 4.3.2. Its bytes
--- may be of any type, and its record too: slot tells where the record's next byte goes, next is the record after it. Assumes nothing.
+-- may be of any type, and its record too: slot tells where the record's next byte goes, next is the record after it.
 use Prim.Native.Nat.{ℕ, zero, suc, _+_, _-_, _*_, _/_, _%_}
 use mathlib.Core.Bool.{cond}
 use mathlib.Core.List.{List, [], _∷_}

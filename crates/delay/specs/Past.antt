@@ -1,5 +1,5 @@
 -- The store when i bytes have passed, ring by ring: a byte changes its own ring only, and looks at no other. Over the number of branches and
--- the step. Assumes nothing.
+-- the step.
 use Prim.Native.Nat.{ℕ, zero, suc, _+_, _-_, _/_, _%_, _≤_, _<_}
 use mathlib.Core.Path.{_≡_, refl, sym, ap, _∙_}
 use Rattle.laws.specs.declared.Way.{Way}

@@ -1,4 +1,4 @@
--- The deinterleaver behind the interleaver: the input again, branches·step·(branches - 1) bytes late, behind f. Assumes nothing.
+-- The deinterleaver behind the interleaver: the input again, branches·step·(branches - 1) bytes late, behind f.
 use Prim.Native.Nat.{ℕ, suc, _+_, _-_, _*_, _%_, _<_}
 use mathlib.Core.Path.{_≡_, sym, ap, _∙_}
 use mathlib.Core.List.{List, _++_}

@@ -1,4 +1,4 @@
--- Facts on rings, slots and what a byte does to the store, over the number of branches and the step. Assumes nothing.
+-- Facts on rings, slots and what a byte does to the store, over the number of branches and the step.
 use Prim.Native.Nat.{ℕ, zero, suc, _+_, _-_, _*_, _/_, _%_, _≤_, _<_}
 use mathlib.Core.Path.{_≡_, refl, ap, _∙_}
 use Rattle.laws.specs.declared.Way.{Way}

@@ -1,5 +1,5 @@
 -- The loops over one ring, part way: its bytes go to neighbouring places, and at the ring's end to its first place again. Over the number of
--- branches and the step, and whatever byte of the stream the loop begins with. Assumes nothing.
+-- branches and the step, and whatever byte of the stream the loop begins with.
 use Prim.Native.Nat.{ℕ, suc, _+_, _*_, _/_, _%_, _≤_, _<_}
 use mathlib.Core.Path.{_≡_, refl, sym, ap, _∙_}
 use mathlib.Core.List.{List}

@@ -2,9 +2,9 @@
 use super::read_some;
 use super::refused;
 use super::write_out;
-use tables::Moved;
 use sets::Set;
 use sets::Verdict;
+use tables::Moved;
 ghost use Prim.Native.Nat.{_≤_, _+_};
 ghost use lib.ListN.{length};
 

@@ -1,4 +1,4 @@
--- A walk that meets no padding writes the rule itself, cell after cell. Rests on Keep and Cut. Assumes nothing.
+-- A walk that meets no padding writes the rule itself, cell after cell. Rests on Keep and Cut.
 use Prim.Native.Nat.{ℕ, zero, suc, min, _+_, _-_, _≤_, _<_}
 use mathlib.Core.Bool.{Bool, true}
 use mathlib.Core.List.{List, _∷_, _++_}

@@ -1,5 +1,4 @@
 -- No value decides a place: to change every symbol and then move is to move and then change. Over any elements. Rests on Move.
--- Assumes nothing.
 use mathlib.Core.Path.{_≡_, refl, sym, ap, _∙_}
 use mathlib.Core.List.{List, [], _∷_, map}
 use Prim.Native.Nat.{ℕ, zero, suc}

@@ -1,5 +1,5 @@
 -- A walk over cells writes the first entries that pass, as many as it has room for; the cells it examines are the entries written and
--- the padding passed; and in pieces it is the walk as a whole. For any rule and test. Assumes nothing.
+-- the padding passed; and in pieces it is the walk as a whole. For any rule and test.
 use Prim.Native.Nat.{ℕ, zero, suc, _+_, _-_, _≤_}
 use mathlib.Core.Bool.{Bool, true, false, cond}
 use mathlib.Core.List.{List, [], _∷_, _++_}

@@ -1,4 +1,4 @@
--- Division and remainder: a number by its digits, and laws of remainders that the kit has not. Assumes nothing.
+-- Division and remainder: a number by its digits, and laws of remainders that the kit has not.
 use mathlib.Core.Path.{_≡_, sym, ap, _∙_}
 use mathlib.Core.Logic.{⊎-elim}
 use Prim.Native.Nat.{ℕ, _+_, _-_, _*_, _/_, _%_, _≤_, _<_}

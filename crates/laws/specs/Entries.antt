@@ -1,4 +1,4 @@
--- A list that a loop fills entry by entry: what its entries below i are, and after one more store. Assumes nothing.
+-- A list that a loop fills entry by entry: what its entries below i are, and after one more store.
 use Prim.Native.Nat.{ℕ, _+_, _<_}
 use mathlib.Core.List.{List}
 use mathlib.Core.Logic.{⊎-elim}

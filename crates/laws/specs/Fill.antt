@@ -1,4 +1,4 @@
--- A slice that is filled from the front by a rule, entry after entry; the rest keeps its entries. Over any element. Assumes nothing.
+-- A slice that is filled from the front by a rule, entry after entry; the rest keeps its entries. Over any element.
 use mathlib.Core.Path.{_≡_, refl, sym, ap, _∙_}
 use mathlib.Core.List.{List, [], _∷_, _++_, append-assoc, append-nil}
 use Prim.Native.Nat.{ℕ, suc, _+_, _<_}

@@ -1,5 +1,5 @@
 -- Walking cells. f gives a cell's entry, and an entry is kept where it passes the test ok; the others are padding. Over any element,
--- rule and test. Assumes nothing: these are definitions.
+-- rule and test. These are definitions.
 use Prim.Native.Nat.{ℕ, zero, suc}
 use mathlib.Core.Bool.{Bool, cond}
 use mathlib.Core.List.{List, [], _∷_}

@@ -1,5 +1,5 @@
 -- Writing a rule into a slice lane by lane: the cells lie in lanes of w, and inside a lane a stepped state gives the next entry.
--- Over any rule and any state. Assumes nothing.
+-- Over any rule and any state.
 use mathlib.Core.Path.{_≡_, refl, ap, _∙_, subst}
 use mathlib.Core.List.{List, _++_}
 use Prim.Native.Nat.{ℕ, min, _+_, _-_, _*_, _/_, _≤_, _<_}

@@ -1,5 +1,5 @@
 -- From what a leaf function did to what it promises, and from its answer to what stands above it: the numbers fit, and the call's answer is the
--- leaf's, carried on. Rests on Walk. Assumes nothing.
+-- leaf's, carried on. Rests on Walk.
 use Prim.Native.Nat.{ℕ, _+_, _-_, _≤_, _<_}
 use mathlib.Core.Bool.{Bool, true, false}
 use mathlib.Core.List.{List, [], _∷_}

@@ -1,5 +1,4 @@
 -- The two loops that move a block by a table of addresses, over any element: what holds at each turn. Rests on Fill and Move.
--- Assumes nothing.
 use mathlib.Core.Path.{_≡_, refl, sym, ap, _∙_, subst}
 use mathlib.Core.List.{List, _++_}
 use Prim.Native.Nat.{ℕ, _+_, _≤_, _<_}

@@ -1,5 +1,4 @@
 -- A block moved by a rule, over any element. Interleaving gathers by L; deinterleaving scatters by L, which is to gather by M.
--- Assumes nothing.
 use mathlib.Core.Path.{_≡_, refl, sym, ap, _∙_, subst}
 use mathlib.Core.Logic.{_≢_, ⊎-elim}
 use mathlib.Core.List.{List, [], _∷_}

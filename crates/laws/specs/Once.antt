@@ -1,5 +1,5 @@
 -- A one-to-one map of the numbers below n into themselves has each value once, so among the entries that pass a test each number that
--- passes stands exactly once. The test `inside k` keeps the numbers below k. Assumes nothing.
+-- passes stands exactly once. The test `inside k` keeps the numbers below k.
 use Prim.Native.Nat.{ℕ, zero, suc, _+_, _≤_, _<_}
 use mathlib.Core.Bool.{Bool, true, false, cond, false≢true}
 use mathlib.Core.List.{List, [], _∷_}

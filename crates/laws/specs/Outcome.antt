@@ -1,5 +1,5 @@
 -- The pattern of every call. Its refusals are lines in the order of the checks, each a number and whether it applies: the first that
--- applies is given, and where one applies no lent buffer changes. Over any values and any kind of refusal. Assumes nothing.
+-- applies is given, and where one applies no lent buffer changes. Over any values and any kind of refusal.
 use Prim.Native.Nat.{ℕ}
 use native.Mathlib.Omega.{arith}
 use mathlib.Core.Bool.{Bool, true, false, cond}

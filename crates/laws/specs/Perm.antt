@@ -1,4 +1,4 @@
--- Two rules that undo each other below n: each number below n is used exactly once, either way. Assumes nothing.
+-- Two rules that undo each other below n: each number below n is used exactly once, either way.
 use mathlib.Core.Path.{_≡_}
 use Prim.Native.Nat.{ℕ, _<_}
 

@@ -1,4 +1,4 @@
--- Where each entry stands once, the place of an entry and the entry at a place undo one another. Rests on Once. Assumes nothing.
+-- Where each entry stands once, the place of an entry and the entry at a place undo one another. Rests on Once.
 use Prim.Native.Nat.{ℕ, zero, suc, _+_, _≤_, _<_}
 use mathlib.Core.Bool.{Bool, true, false, cond}
 use mathlib.Core.List.{List, [], _∷_}

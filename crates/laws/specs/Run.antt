@@ -1,4 +1,4 @@
--- Lists given by a rule: f at a, a + 1, .., n of them. Over any element. Assumes nothing.
+-- Lists given by a rule: f at a, a + 1, .., n of them. Over any element.
 use mathlib.Core.Path.{_≡_, refl, sym, ap, _∙_, subst}
 use mathlib.Core.Logic.{⊎-elim}
 use mathlib.Core.List.{List, [], _∷_, _++_, List·Memᴰ, List·Memᴰ·head, List·Memᴰ·tail, List·Memᴰ·cases-cons, List·Memᴰ·not-nil}

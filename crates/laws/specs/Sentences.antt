@@ -1,5 +1,5 @@
 -- The lines of a call as the paper writes them: each a number and a sentence, true exactly when the line applies. The number that a call says
--- is that of the first true sentence. Over any sentences. Assumes nothing.
+-- is that of the first true sentence. Over any sentences.
 use Prim.Native.Nat.{ℕ, _≤_, _<_}
 use native.Mathlib.Omega.{arith}
 use mathlib.Core.Bool.{Bool, true, false, cond, not}

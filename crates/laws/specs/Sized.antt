@@ -1,4 +1,4 @@
--- A block that divides into d rows of whole groups of s. The parameter sets and the carrier laws share it. Assumes nothing.
+-- A block that divides into d rows of whole groups of s. The parameter sets and the carrier laws share it.
 use mathlib.Core.Path.{_≡_, sym, ap, _∙_, subst}
 use Prim.Native.Nat.{ℕ, zero, suc, _*_, _/_, _≤_, _<_}
 use native.Mathlib.Nat.{mul-zero, mul-pos, mul-le-mul-left, mul-div-cancel-left}

@@ -1,4 +1,4 @@
--- A test at each of the n numbers from a on, computed once, and what it says of each number. Rests on Run and Members. Assumes nothing.
+-- A test at each of the n numbers from a on, computed once, and what it says of each number. Rests on Run and Members.
 use mathlib.Core.Path.{_≡_}
 use mathlib.Core.Bool.{Bool, true}
 use Prim.Native.Nat.{ℕ, _+_, _≤_, _<_}

@@ -1,4 +1,4 @@
--- Products modulo m: a factor that has an inverse can be undone. Assumes nothing.
+-- Products modulo m: a factor that has an inverse can be undone.
 use Prim.Native.Nat.{ℕ, _+_, _*_, _/_, _%_, _<_}
 use mathlib.Core.Path.{_≡_, ap, sym, _∙_}
 use native.Mathlib.Nat.{mod-add-div, mul-add, mul-left-comm, mul-comm, mul-assoc, mul-one, add-mul-mod-self-left, mod-eq-of-lt}

@@ -1,6 +1,6 @@
 -- A family of interleavers is one rule, and a walk along it is one thing for every family: which addresses it writes, which cells it examines,
 -- what it leaves in the slice, and when it is refused. Every leaf function promises `LeafOf` or `SingleOf`; what stands above the families rests
--- on `Lawful` and on no formula. Assumes nothing.
+-- on `Lawful` and on no formula.
 use Prim.Native.Nat.{ℕ, min, _+_, _-_, _≤_, _<_}
 use mathlib.Core.Bool.{Bool, false}
 use mathlib.Core.List.{List, [], _∷_, _++_}

@@ -1,5 +1,5 @@
 -- A loop that walks the cells: what it has written and what is left to write make up what it is to write. For any rule, test and total.
--- Rests on Keep. Assumes nothing.
+-- Rests on Keep.
 use Prim.Native.Nat.{ℕ, zero, suc, _+_, _-_, _≤_, _<_}
 use mathlib.Core.Bool.{Bool, true, false}
 use mathlib.Core.List.{List, [], _∷_, _++_, append-assoc, append-nil}

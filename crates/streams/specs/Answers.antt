@@ -1,5 +1,5 @@
 -- What a start and a feed say: the lines that refuse them, in the order of the checks, and the answers in the paper's numbers and values.
--- Rests on the pattern of every call. Assumes nothing.
+-- Rests on the pattern of every call.
 use Prim.Native.Nat.{ℕ}
 use mathlib.Core.Bool.{not}
 use mathlib.Core.List.{List, [], _∷_}

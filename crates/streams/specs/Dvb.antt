@@ -1,5 +1,5 @@
 -- The DVB byte machine, ETSI EN 300 744, 4.3.2: twelve branches, queues in steps of 17 bytes, a store of 1,122 bytes. Its record is the phase,
--- t modulo 5,654,880. What a start and a feed that are not refused give. Over bytes of any type. Assumes nothing: these are definitions.
+-- t modulo 5,654,880. What a start and a feed that are not refused give. Over bytes of any type. These are definitions.
 use Prim.Native.Nat.{ℕ, _+_, _%_}
 use mathlib.Core.List.{List}
 use mathlib.Core.Path.{_≡_}

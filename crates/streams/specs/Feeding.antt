@@ -1,4 +1,4 @@
--- A feed's set-up and its loop over the rings: twelve branches, steps of 17, from a record in its range. Assumes nothing.
+-- A feed's set-up and its loop over the rings: twelve branches, steps of 17, from a record in its range.
 use Prim.Native.Nat.{ℕ, _+_, _*_, _/_, _%_, _≤_, _<_}
 use mathlib.Core.Path.{_≡_, refl, sym, ap, _∙_}
 use mathlib.Core.List.{List}

@@ -1,5 +1,5 @@
 -- The phase, t modulo 5,654,880, stands for t: the wrap changes no slot, so a run of records is a run of the machine over t itself, without
--- bound. Rests on one computed test: every ring's size divides 471,240 = 5,654,880 / 12. Assumes nothing.
+-- bound. Rests on one computed test: every ring's size divides 471,240 = 5,654,880 / 12.
 use Prim.Native.Nat.{ℕ, zero, suc, _+_, _*_, _/_, _%_, _<_}
 use mathlib.Core.Path.{_≡_, refl, sym, ap, _∙_}
 use mathlib.Core.Bool.{Bool}

@@ -60,8 +60,11 @@ fn stretch(
     input: &[u8],
     out: &mut [u8],
 ) -> usize
-    requires { ⌜ (branches < 65536) × (at ≤ stop) × (stop ≤ length (now store)) × (branches * stop + from < length (now input) + branches + branches * at) × (length (now out) ≡ length (now input)) ⌝ }
-    ensures { λ r. ⌜ Stretching branches (now (input .entry)) (now (store .entry)) (now (out .entry)) from at stop (now (store .exit)) (now (out .exit)) r stop ⌝ }
+    requires { ⌜ (branches < 65536) × (at ≤ stop) × (stop ≤ length (now store))
+        × (branches * stop + from < length (now input) + branches + branches * at)
+        × (length (now out) ≡ length (now input)) ⌝ }
+    ensures { λ r. ⌜ Stretching branches (now (input .entry)) (now (store .entry)) (now (out .entry))
+        from at stop (now (store .exit)) (now (out .exit)) r stop ⌝ }
 {
     let mut i = from;
     let mut place = at;
@@ -86,8 +89,10 @@ pub(super) fn turn(
     input: &[u8],
     out: &mut [u8],
 )
-    requires { ⌜ (0 < branches) × (branches < 65536) × (first < last) × (at < last) × (last ≤ length (now store)) × (length (now out) ≡ length (now input)) ⌝ }
-    ensures { λ _. ⌜ Turned branches first last from at (now (store .entry)) (now (input .entry)) (now (out .entry)) (now (store .exit)) (now (out .exit)) ⌝ }
+    requires { ⌜ (0 < branches) × (branches < 65536) × (first < last) × (at < last)
+        × (last ≤ length (now store)) × (length (now out) ≡ length (now input)) ⌝ }
+    ensures { λ _. ⌜ Turned branches first last from at (now (store .entry)) (now (input .entry)) (now (out .entry))
+        (now (store .exit)) (now (out .exit)) ⌝ }
 {
     let mut i = from;
     let mut place = at;

@@ -1,6 +1,6 @@
 -- The starred cases of document 01, "Checked by hand", in one proved table, over the definitions that the public contracts cite, and a second
 -- table of ours for what 01's leave out. A row says a question, a set, an argument and the numbers that are expected. `refl` at its end: the
--- definitions compute to those numbers. Assumes nothing.
+-- definitions compute to those numbers.
 use Prim.Native.Nat.{ℕ, _-_, _≤_}
 use mathlib.Core.Bool.{cond}
 use mathlib.Core.List.{List, [], _∷_}
@@ -15,10 +15,10 @@ use Rattle.laws.specs.Position.{position}
 use Rattle.sets.specs.declared.Set.{Set}
 use Rattle.sets.specs.Profiles.{familyOf, rowsOf, groupOf}
 use Rattle.carrier.specs.Formula.{firstStep, secondStep, carrierM, backStep, lastStep, carrierL}
-use Rattle.wcdma_plan.specs.Rectangle.{rows, primes, firstPrime, prime, colsOf, cols, cells}
-use Rattle.wcdma_plan.specs.Powers.{power, firstOne, generates, rootFrom, root}
-use Rattle.wcdma_plan.specs.Numbers.{noDivisor, isPrime, passes, nextIn, nextQ, qOf}
-use Rattle.wcdma_plan.specs.Orders.{rowOrders, whichOrder, orderOf, rowAt}
+use Rattle.wcdma_setup.specs.Rectangle.{rows, primes, firstPrime, prime, colsOf, cols, cells}
+use Rattle.wcdma_setup.specs.Powers.{power, firstOne, generates, rootFrom, root}
+use Rattle.wcdma_setup.specs.Numbers.{noDivisor, isPrime, passes, nextIn, nextQ, qOf}
+use Rattle.wcdma_setup.specs.Orders.{rowOrders, whichOrder, orderOf, rowAt}
 use Rattle.wcdma.specs.Turbo.{entry, address, addresses, turboM, padCells}
 use Rattle.wcdma.specs.Pads.{cells-are}
 use Rattle.walks.specs.Rules.{ruleOf}

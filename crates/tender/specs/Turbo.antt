@@ -1,11 +1,11 @@
 -- Condition 2 for profile 5, the WCDMA turbo interleaver of 3GPP TS 25.212 as document 01 describes it (without the exchange at full
 -- rectangles: docs/DECISIONS.md): for every size K from 40 to 5,114 each address from 0 to K - 1 stands in L exactly once, and the padding is
--- counted. Assumes nothing.
+-- counted.
 use Prim.Native.Nat.{ℕ, _+_, _≤_, _<_}
 use mathlib.Core.Path.{_≡_}
 use Rattle.laws.specs.Perm.{Perm}
 use Rattle.laws.specs.Once.{count}
-use Rattle.wcdma_plan.specs.Rectangle.{cells}
+use Rattle.wcdma_setup.specs.Rectangle.{cells}
 use Rattle.wcdma.specs.Turbo.{addresses, turboL, turboM, padCells}
 use Rattle.wcdma.specs.Law as law
 use Rattle.wcdma.specs.Pads as pads

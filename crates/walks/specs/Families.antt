@@ -16,7 +16,7 @@ use Rattle.sets.specs.Profiles.{familyOf, rowsOf, groupOf}
 use Rattle.sets.specs.Carried.{carried, turbo-size}
 use Rattle.carrier.specs.Formula.{carrierRule}
 use Rattle.carrier.specs.Block.{Whole}
-use Rattle.wcdma_plan.specs.Rectangle.{Size}
+use Rattle.wcdma_setup.specs.Rectangle.{Size}
 use Rattle.wcdma.specs.Turbo.{turboRule}
 use Rattle.walks.specs.Rules.{ruleOf, ruleIn, oneWay, barred, rule-is}
 use Rattle.walks.specs.Passed.{Taken}

@@ -18,7 +18,7 @@ use Rattle.sets.specs.Profiles.{familyOf}
 use Rattle.sets.specs.Carried.{five-turbo, turbo-five}
 use Rattle.sets.specs.Verdict.{refusal}
 use Rattle.sets.specs.Refusals.{setSentences, set-told, refusals-apart}
-use Rattle.wcdma_plan.specs.Search.{FewFound, fails-few, few-fails}
+use Rattle.wcdma_setup.specs.Search.{FewFound, fails-few, few-fails}
 use Rattle.walks.specs.declared.Walk.{Walk}
 use Rattle.walks.specs.Rules.{familyRule, ruleOf, ruleIn, oneWay, barred, rule-is}
 use Rattle.walks.specs.Answer.{planLines, walkLines, oneLines, walkValues, walkSlice, walkedOf, sliceOf, foundOf}

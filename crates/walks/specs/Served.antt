@@ -13,7 +13,7 @@ use Rattle.sets.specs.declared.Family.{Family}
 use Rattle.sets.specs.declared.Family.the-variants.{Carrier, Turbo}
 use Rattle.sets.specs.Profiles.{familyOf}
 use Rattle.sets.specs.Carried.{other-carrier}
-use Rattle.wcdma_plan.specs.Found.{search-ends}
+use Rattle.wcdma_setup.specs.Found.{search-ends}
 use Rattle.walks.specs.declared.Walk.{Walk}
 use Rattle.walks.specs.Rules.{familyRule, ruleOf, ruleIn, oneWay, barred}
 use Rattle.walks.specs.Answer.{planLines, walkLines, oneLines, walkValues, walkedOf, foundOf}

@@ -1,4 +1,4 @@
--- The reads of one cell, and how a walk goes on by a cell or by a column. Rests on Place. Assumes nothing.
+-- The reads of one cell, and how a walk goes on by a cell or by a column. Rests on Place.
 use Prim.Native.Nat.{ℕ, _+_, _*_, _-_, _%_, _≤_, _<_}
 use mathlib.Core.List.{List}
 use mathlib.Core.Path.{_≡_, refl, ap, sym, _∙_, subst}
@@ -8,12 +8,12 @@ use lib.ListN.{getD, set}
 use borrow.Author.Tests.{lt-ltb, le-ltb}
 use Rattle.laws.specs.Once.{inside}
 use Rattle.laws.specs.Written.{Written, put-as, skipped}
-use Rattle.wcdma_plan.specs.declared.Shape.{Shape}
-use Rattle.wcdma_plan.specs.Rectangle.{rows, prime, cols, cells}
-use Rattle.wcdma_plan.specs.Powers.{power, root}
-use Rattle.wcdma_plan.specs.Numbers.{qOf}
-use Rattle.wcdma_plan.specs.Orders.{rowAt}
-use Rattle.wcdma_plan.specs.Shape.{rows-pos, rows-le, prime-big, prime-small}
+use Rattle.wcdma_setup.specs.declared.Shape.{Shape}
+use Rattle.wcdma_setup.specs.Rectangle.{rows, prime, cols, cells}
+use Rattle.wcdma_setup.specs.Powers.{power, root}
+use Rattle.wcdma_setup.specs.Numbers.{qOf}
+use Rattle.wcdma_setup.specs.Orders.{rowAt}
+use Rattle.wcdma_setup.specs.Shape.{rows-pos, rows-le, prime-big, prime-small}
 use Rattle.wcdma.specs.Turbo.{entry, address}
 use Rattle.wcdma.specs.Post.{entryAt, CellIn, Goes}
 use Rattle.wcdma.proofs.Place.{Place, place-address, place-column, exponent, exponent-lt, raised, entry-short}
@@ -46,8 +46,8 @@ module _ {y : Shape} {i j n : ℕ} {s base fall e out : List ℕ} (z : CellIn y 
   rise-lt : qOf (prime (y .k) - 1) i % (prime (y .k) - 1) < prime (y .k) - 1
   rise-lt = let g = prime-big (y .k) in mod-lt _ (omega arith)
 
-  pub bump-in : (getD e i 0 < (y .p) - 1) × (0 < getD fall i 0) × (getD fall i 0 ≤ (y .p) - 1) × ((y .p) - 1 < 257)
-  bump-in =
+  pub exponent-in : (getD e i 0 < (y .p) - 1) × (0 < getD fall i 0) × (getD fall i 0 ≤ (y .p) - 1) × ((y .p) - 1 < 257)
+  exponent-in =
       let a = z .shape .prime-is in
       let x = exponent-lt (y .k) (z .exponents) (z .row) in
       let w₁ = z .tables .rows-are .falls i (z .row) in

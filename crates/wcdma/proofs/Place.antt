@@ -1,4 +1,4 @@
--- A cell by its row i and column j, and the exponents of the rows as the walk goes from one cell to the next. Assumes nothing.
+-- A cell by its row i and column j, and the exponents of the rows as the walk goes from one cell to the next.
 use Prim.Native.Nat.{ℕ, _+_, _*_, _-_, _/_, _%_, _≤_, _<_}
 use mathlib.Core.Bool.{Bool, true, false}
 use mathlib.Core.List.{List}
@@ -12,12 +12,12 @@ use lib.ListN.{getD, set, length-set}
 use lib.Seq.{getD-set-same, getD-set-other}
 use borrow.Author.Tests.{lt-ltb, le-ltb, ltb-true, ltb-false, eqb-true}
 use Rattle.laws.specs.Units.{mul-mod-in}
-use Rattle.wcdma_plan.specs.Rectangle.{rows, prime, cols, cells}
-use Rattle.wcdma_plan.specs.Powers.{root}
-use Rattle.wcdma_plan.specs.Numbers.{qOf}
-use Rattle.wcdma_plan.specs.Orders.{rowAt}
-use Rattle.wcdma_plan.specs.Shape.{rows-pos, rows-le, prime-big}
-use Rattle.wcdma_plan.specs.Post.{shortBy}
+use Rattle.wcdma_setup.specs.Rectangle.{rows, prime, cols, cells}
+use Rattle.wcdma_setup.specs.Powers.{root}
+use Rattle.wcdma_setup.specs.Numbers.{qOf}
+use Rattle.wcdma_setup.specs.Orders.{rowAt}
+use Rattle.wcdma_setup.specs.Shape.{rows-pos, rows-le, prime-big}
+use Rattle.wcdma_setup.specs.Post.{shortBy}
 use Rattle.wcdma.specs.Turbo.{entry, entryWith, address}
 use Rattle.wcdma.specs.Law.{col-lt}
 use Rattle.wcdma.specs.Post.{nextCol, Exponents, entryAt}

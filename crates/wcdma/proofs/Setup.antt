@@ -1,4 +1,4 @@
--- What the walk hands to its parts, and what its answer says. Assumes nothing.
+-- What the walk hands to its parts, and what its answer says.
 use Prim.Native.Nat.{ℕ, _*_, _-_, _/_, _%_, _≤_, _<_}
 use mathlib.Core.Bool.{Bool, true, false, not, cond}
 use mathlib.Core.List.{List, _++_}
@@ -12,13 +12,13 @@ use Rattle.laws.specs.declared.Leaf.{Leaf}
 use Rattle.laws.specs.declared.Single.the-variants.{Barred}
 use Rattle.laws.specs.Walk.{walkSlice, LeafOf, SingleOf, table-is}
 use Rattle.laws.specs.Leaves.{WentWell, leaf-went, single-fails}
-use Rattle.wcdma_plan.specs.declared.Shape.{Shape}
-use Rattle.wcdma_plan.specs.Rectangle.{Size, rows, prime, cols, cells}
-use Rattle.wcdma_plan.specs.Powers.{power, root}
-use Rattle.wcdma_plan.specs.Numbers.{qOf, allFound, searchFails}
-use Rattle.wcdma_plan.specs.Shape.{rows-pos, cols-high, prime-small}
-use Rattle.wcdma_plan.specs.Roots.{prime-root, power-pos}
-use Rattle.wcdma_plan.specs.Post.{ShapeOf, NumbersOf, shortBy}
+use Rattle.wcdma_setup.specs.declared.Shape.{Shape}
+use Rattle.wcdma_setup.specs.Rectangle.{Size, rows, prime, cols, cells}
+use Rattle.wcdma_setup.specs.Powers.{power, root}
+use Rattle.wcdma_setup.specs.Numbers.{qOf, allFound, searchFails}
+use Rattle.wcdma_setup.specs.Shape.{rows-pos, cols-high, prime-small}
+use Rattle.wcdma_setup.specs.Roots.{prime-root, power-pos}
+use Rattle.wcdma_setup.specs.Post.{ShapeOf, NumbersOf, shortBy}
 use Rattle.wcdma.specs.Turbo.{addresses, turboL, turboRule}
 use Rattle.wcdma.specs.Law.{as-many, turbo-lawful}
 use Rattle.wcdma.specs.Walks.{walk-whole}

@@ -1,5 +1,5 @@
 -- For every K each address from 0 to K - 1 stands exactly once in L, and L and M undo each other. Different cells have different addresses,
--- since different rows have different places T(i) and one row has different entries. Rests on Row and the plan. Assumes nothing.
+-- since different rows have different places T(i) and one row has different entries. Rests on Row and the plan.
 use Prim.Native.Nat.{ℕ, _+_, _*_, _-_, _/_, _%_, _≤_, _<_}
 use mathlib.Core.Bool.{Bool, true, false, cond}
 use mathlib.Core.Path.{_≡_, refl, ap, ap₂, sym, _∙_}
@@ -14,13 +14,13 @@ use Rattle.laws.specs.Perm.{Perm}
 use Rattle.laws.specs.Once.{inside, count, once, kept}
 use Rattle.laws.specs.Position.{position, kept-perm}
 use Rattle.laws.specs.Walk.{Lawful}
-use Rattle.wcdma_plan.specs.Rectangle.{rows, prime, cols, cells}
-use Rattle.wcdma_plan.specs.Powers.{root}
-use Rattle.wcdma_plan.specs.Numbers.{qOf}
-use Rattle.wcdma_plan.specs.Orders.{orderOf, rowAt, order-perm, order-listed}
-use Rattle.wcdma_plan.specs.Shape.{choice, rows-pos, rows-le, prime-listed, cols-low, cols-high, fits, cells-le}
-use Rattle.wcdma_plan.specs.Roots.{prime-root}
-use Rattle.wcdma_plan.specs.Found.{q-unit}
+use Rattle.wcdma_setup.specs.Rectangle.{rows, prime, cols, cells}
+use Rattle.wcdma_setup.specs.Powers.{root}
+use Rattle.wcdma_setup.specs.Numbers.{qOf}
+use Rattle.wcdma_setup.specs.Orders.{orderOf, rowAt, order-perm, order-listed}
+use Rattle.wcdma_setup.specs.Shape.{choice, rows-pos, rows-le, prime-listed, cols-low, cols-high, fits, cells-le}
+use Rattle.wcdma_setup.specs.Roots.{prime-root}
+use Rattle.wcdma_setup.specs.Found.{q-unit}
 use Rattle.wcdma.specs.Turbo.{entry, address, addresses, turboL, turboM, turboRule}
 use Rattle.wcdma.specs.Row.{entry-lt, entry-inj}
 

@@ -1,5 +1,4 @@
 -- The padding: cells = K + padding, never more than 239 cells of it, and 239 at K 2281. Rests on Law; one computed test over the sizes.
--- Assumes nothing.
 use Prim.Native.Nat.{ℕ, _+_, _-_, _≤_}
 use mathlib.Core.Bool.{Bool, true}
 use mathlib.Core.Path.{_≡_, refl}
@@ -9,7 +8,7 @@ use borrow.Author.Tests.{leb-true}
 use Rattle.laws.specs.Span.{span, at-number}
 use Rattle.laws.specs.Cut.{kept-or-padding}
 use Rattle.laws.specs.Once.{inside}
-use Rattle.wcdma_plan.specs.Rectangle.{Size, rows, primes, firstPrime, prime, colsOf, cols, cells}
+use Rattle.wcdma_setup.specs.Rectangle.{Size, rows, primes, firstPrime, prime, colsOf, cols, cells}
 use Rattle.wcdma.specs.Turbo.{address, addresses, padCells}
 use Rattle.wcdma.specs.Law.{as-many}
 

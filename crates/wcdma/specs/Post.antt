@@ -1,4 +1,4 @@
--- What the functions of the walk are given and ensure, part by part. Rests on Turbo and Written. Assumes nothing: these are definitions.
+-- What the functions of the walk are given and ensure, part by part. Rests on Turbo and Written. These are definitions.
 use Prim.Native.Nat.{ℕ, _+_, _*_, _-_, _%_, _<_, _≤_}
 use mathlib.Core.Bool.{Bool, true, not, cond}
 use mathlib.Core.List.{List}
@@ -10,12 +10,12 @@ use Rattle.laws.specs.Written.{Written}
 use Rattle.laws.specs.declared.Leaf.{Leaf}
 use Rattle.laws.specs.declared.Leaf.the-variants.{Went}
 use Rattle.laws.specs.Walk.{walkList, walkCells, walkSlice}
-use Rattle.wcdma_plan.specs.declared.Shape.{Shape}
-use Rattle.wcdma_plan.specs.Rectangle.{rows, prime, cols, cells}
-use Rattle.wcdma_plan.specs.Powers.{power, root}
-use Rattle.wcdma_plan.specs.Numbers.{qOf, searchFails}
-use Rattle.wcdma_plan.specs.Orders.{rowAt}
-use Rattle.wcdma_plan.specs.Post.{ShapeOf, shortBy}
+use Rattle.wcdma_setup.specs.declared.Shape.{Shape}
+use Rattle.wcdma_setup.specs.Rectangle.{rows, prime, cols, cells}
+use Rattle.wcdma_setup.specs.Powers.{power, root}
+use Rattle.wcdma_setup.specs.Numbers.{qOf, searchFails}
+use Rattle.wcdma_setup.specs.Orders.{rowAt}
+use Rattle.wcdma_setup.specs.Post.{ShapeOf, shortBy}
 use Rattle.wcdma.specs.Turbo.{address, turboRule}
 
 -- the column that comes next in row x, where the walk stands at row i of column j

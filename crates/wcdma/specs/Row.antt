@@ -1,4 +1,4 @@
--- One row: its columns have different entries, all below C. Rests on the roots and the numbers of the plan. Assumes nothing.
+-- One row: its columns have different entries, all below C. Rests on the roots and the numbers of the plan.
 use Prim.Native.Nat.{ℕ, _+_, _*_, _-_, _%_, _≤_, _<_}
 use mathlib.Core.Bool.{Bool, true, false, cond}
 use mathlib.Core.Path.{_≡_, refl, ap, sym, _∙_, subst}
@@ -9,9 +9,9 @@ use native.Mathlib.Decide.{ℕ-discrete}
 use lib.Dec.{ltb, eqb}
 use borrow.Author.Tests.{ltb-true, ltb-false, eqb-true, eqb-false, eq-eqb, ne-eqb}
 use Rattle.laws.specs.Units.{undo-inj}
-use Rattle.wcdma_plan.specs.Powers.{power}
-use Rattle.wcdma_plan.specs.Roots.{Root, power-lt, power-not-zero, power-inj}
-use Rattle.wcdma_plan.specs.Found.{Unitary}
+use Rattle.wcdma_setup.specs.Powers.{power}
+use Rattle.wcdma_setup.specs.Roots.{Root, power-lt, power-not-zero, power-inj}
+use Rattle.wcdma_setup.specs.Found.{Unitary}
 use Rattle.wcdma.specs.Turbo.{entry}
 
 module _ (p v : ℕ) (root : Root p v) (q : ℕ) (unit : Unitary (p - 1) q) where

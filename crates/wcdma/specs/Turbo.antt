@@ -1,5 +1,5 @@
--- The WCDMA turbo interleaver, 3GPP TS 25.212 4.2.3.2.3, as document 01 describes it (docs/DECISIONS.md, 11): the address of each cell of the rectangle, and the lists L and M of a block of K
--- symbols. Rests on the plan. Assumes nothing: these are definitions.
+-- The WCDMA turbo interleaver, 3GPP TS 25.212 4.2.3.2.3.2 (intra-row and inter-row permutations) and 4.2.3.2.3.3 (padding pruned), as document 01
+-- describes it (docs/DECISIONS.md, 11): the address of each cell of the rectangle, and the lists L and M of a block of K symbols. Rests on the set-up. These are definitions.
 use Prim.Native.Nat.{ℕ, _+_, _*_, _-_, _/_, _%_}
 use mathlib.Core.Bool.{cond}
 use mathlib.Core.List.{List}
@@ -9,10 +9,10 @@ use Rattle.laws.specs.Keep.{keep, padding}
 use Rattle.laws.specs.Once.{inside}
 use Rattle.laws.specs.Position.{position}
 use Rattle.laws.specs.Walk.{Rule}
-use Rattle.wcdma_plan.specs.Rectangle.{rows, prime, cols, cells}
-use Rattle.wcdma_plan.specs.Powers.{power, root}
-use Rattle.wcdma_plan.specs.Numbers.{qOf, searchFails}
-use Rattle.wcdma_plan.specs.Orders.{rowAt}
+use Rattle.wcdma_setup.specs.Rectangle.{rows, prime, cols, cells}
+use Rattle.wcdma_setup.specs.Powers.{power, root}
+use Rattle.wcdma_setup.specs.Numbers.{qOf, searchFails}
+use Rattle.wcdma_setup.specs.Orders.{rowAt}
 
 -- U(j) where s is the power that belongs to column j: s - 1 if C = p - 1; else s for j < p - 1, 0 for j = p - 1, p for j = p
 abbrev pub entryWith : ℕ → ℕ → ℕ → ℕ → ℕ
@@ -22,10 +22,11 @@ entryWith p c s j = cond (eqb c (p - 1)) (s - 1) (cond (ltb j (p - 1)) s (cond (
 unfoldable pub entry : ℕ → ℕ → ℕ → ℕ → ℕ → ℕ
 entry p v c q j = entryWith p c (power p v (j * q % (p - 1))) j
 
--- the address of a cell, row i of column j: T(i)·C + U(j). Cells are counted down the columns
+-- the address of a cell, row i of column j: T(i)·C + U(j). Cells are counted down the columns. (The standard permutes each row by r and then the rows
+-- by T, with r(T(i)) = q(i): row i after the inter-row permutation is row T(i) before it, so the number of row i here is q(i).)
 unfoldable pub address : ℕ → ℕ → ℕ
-address k n =
-    rowAt k (n % rows k) * cols k + entry (prime k) (root (prime k)) (cols k) (qOf (prime k - 1) (n % rows k)) (n / rows k)
+address k cell =
+    rowAt k (cell % rows k) * cols k + entry (prime k) (root (prime k)) (cols k) (qOf (prime k - 1) (cell % rows k)) (cell / rows k)
 
 -- the addresses of all cells but the padding, in the order of the cells
 unfoldable pub addresses : ℕ → List ℕ

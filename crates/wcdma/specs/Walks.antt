@@ -1,8 +1,8 @@
--- A walk from cell 0 with room for all of it writes L. (The rest is proved once for every family, in crates laws and walks.) Assumes nothing.
+-- A walk from cell 0 with room for all of it writes L. (The rest is proved once for every family, in crates laws and walks.)
 use Prim.Native.Nat.{ℕ, _≤_}
 use mathlib.Core.Path.{_≡_, sym, _∙_}
 use Rattle.laws.specs.Walk.{walkList, whole-list}
-use Rattle.wcdma_plan.specs.Rectangle.{Size}
+use Rattle.wcdma_setup.specs.Rectangle.{Size}
 use Rattle.wcdma.specs.Turbo.{addresses, turboRule}
 use Rattle.wcdma.specs.Law.{turbo-lawful}
 

@@ -1,5 +1,5 @@
 -- A wrong build that no edit gives without the proof losing its shape, as a definition, and where it differs from the walk: at K 41 the sixth cell is padding, and
--- a walk from cell 0 with room for 5 stops before it, and one from that cell with no room stays. Both sides are computed. Assumes nothing.
+-- a walk from cell 0 with room for 5 stops before it, and one from that cell with no room stays. Both sides are computed.
 use Prim.Native.Nat.{ℕ, zero, suc, _-_}
 use mathlib.Core.Bool.{Bool, cond}
 use mathlib.Core.Path.{_≡_, refl}
@@ -7,10 +7,10 @@ use Rattle.laws.specs.Euclid.{gcdIn, gcd}
 use Rattle.laws.specs.Keep.{steps}
 use Rattle.laws.specs.Once.{inside}
 use Rattle.laws.specs.Walk.{walkCells}
-use Rattle.wcdma_plan.specs.Rectangle.{rows, primes, firstPrime, prime, colsOf, cols, cells}
-use Rattle.wcdma_plan.specs.Powers.{power, firstOne, generates, rootFrom, root}
-use Rattle.wcdma_plan.specs.Numbers.{noDivisor, isPrime, passes, nextIn, nextQ, qOf}
-use Rattle.wcdma_plan.specs.Orders.{rowOrders, whichOrder, orderOf, rowAt}
+use Rattle.wcdma_setup.specs.Rectangle.{rows, primes, firstPrime, prime, colsOf, cols, cells}
+use Rattle.wcdma_setup.specs.Powers.{power, firstOne, generates, rootFrom, root}
+use Rattle.wcdma_setup.specs.Numbers.{noDivisor, isPrime, passes, nextIn, nextQ, qOf}
+use Rattle.wcdma_setup.specs.Orders.{rowOrders, whichOrder, orderOf, rowAt}
 use Rattle.wcdma.specs.Turbo.{entry, address, turboRule}
 
 -- the cells of a walk that also passes the padding after its slice is full

@@ -1,6 +1,6 @@
 // The walk over the cells: additions, comparisons and table reads.
 use laws::Leaf;
-use wcdma_plan::Shape;
+use wcdma_setup::Shape;
 ghost use mathlib.Core.Path.{_≡_};
 ghost use Prim.Native.Nat.{_+_, _-_, _%_, _<_, _≤_};
 ghost use Rattle.wcdma.specs.Post.{entryAt, CellIn, CellOf, ColumnIn, ColumnOf, FillIn, WentOf};
@@ -26,7 +26,7 @@ fn entry_at(p: usize, s: usize, j: usize) -> usize
 }
 
 // The next exponent, m - fall more modulo m: stepped down by fall, since a borrow is cheaper to test than a sum that passes m.
-fn bump(e: usize, fall: usize, m: usize) -> usize
+fn next_exponent(e: usize, fall: usize, m: usize) -> usize
     requires { ⌜ (e < m) × (0 < fall) × (fall ≤ m) × (m < 257) ⌝ }
     ensures { λ r. ⌜ r ≡ (e + (m - fall)) % m ⌝ }
 {
@@ -53,7 +53,7 @@ fn one_cell(
     let x = e[i];
     let u = entry_at(p, wide16(s[x]), j);
     let a = base[i] + u;
-    e[i] = bump(x, fall[i], p - 1);
+    e[i] = next_exponent(x, fall[i], p - 1);
     if a < k {
         out[n] = a as u16;
         return n + 1;

@@ -5,11 +5,11 @@ mod rows;
 
 use laws::Leaf;
 use laws::Single;
-use wcdma_plan::Shape;
+use wcdma_setup::Shape;
 ghost use mathlib.Core.Path.{_≡_};
 ghost use Rattle.laws.specs.Position.{position};
 ghost use Rattle.laws.specs.Walk.{LeafOf, SingleOf};
-ghost use Rattle.wcdma_plan.specs.Rectangle.{Size};
+ghost use Rattle.wcdma_setup.specs.Rectangle.{Size};
 ghost use Rattle.wcdma.specs.Turbo.{turboL, turboM, turboRule};
 ghost use Rattle.wcdma.specs.Post.{SearchIn, SearchOf, ByIn, WentOf};
 
@@ -20,9 +20,9 @@ fn walk_by(shape: Shape, q: &[u32; 20], cell: usize, out: &mut [u16]) -> Leaf
 {
     let r = shape.r;
     let p = shape.p;
-    let less = wcdma_plan::short_by(shape.c, p);
+    let less = wcdma_setup::short_by(shape.c, p);
     let mut s = [0u16; 256];
-    wcdma_plan::powers(p as u32, shape.v, less, &mut s);
+    wcdma_setup::powers(p as u32, shape.v, less, &mut s);
     let row = cell % r;
     let column = cell / r;
     let mut base = [0usize; 20];
@@ -38,7 +38,7 @@ fn search(shape: Shape, q: &mut [u32; 20]) -> bool
     ensures { λ found. ⌜ SearchOf (shape .k) (now (q .exit)) found ⌝ }
 {
     let m = (shape.p - 1) as u32;
-    wcdma_plan::find_numbers(m, shape.r, q)
+    wcdma_setup::find_numbers(m, shape.r, q)
 }
 
 // The walk from any cell into the slice: it stops right after the slice is full, or at the last cell. 8 where the search for q gives up, 9 past
@@ -47,7 +47,7 @@ pub fn walk(k: usize, cell: usize, out: &mut [u16]) -> Leaf
     requires { ⌜ Size k ⌝ }
     ensures { λ r. ⌜ LeafOf k (turboRule k) cell (now (out .entry)) (now (out .exit)) r ⌝ }
 {
-    let shape = wcdma_plan::shape_of(k);
+    let shape = wcdma_setup::shape_of(k);
     let mut q = [0u32; 20];
     if !search(shape, &mut q) {
         return Leaf::Stopped(8);

@@ -1,4 +1,4 @@
--- What a word of digits says: the number, or that it is none. Assumes nothing.
+-- What a word of digits says: the number, or that it is none.
 use Prim.Native.Nat.{ℕ, _+_, _*_, _-_, _<_, _≤_}
 use mathlib.Core.Path.{_≡_, _∙_, sym, refl}
 use native.Mathlib.Numerals.{add-one}

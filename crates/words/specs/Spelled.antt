@@ -1,4 +1,4 @@
--- A number that is spelled in decimal digits, as the kit's `io::decimal` spells it, is read as that number. Assumes nothing.
+-- A number that is spelled in decimal digits, as the kit's `io::decimal` spells it, is read as that number.
 use Prim.Native.Nat.{ℕ, zero, suc, _+_, _*_, _-_, _/_, _%_, _^_, _≤_, _<_}
 use mathlib.Core.Path.{_≡_, refl, sym, ap, _∙_}
 use mathlib.Core.Bool.{Bool, true, false, cond}

@@ -1,4 +1,4 @@
--- The words of a line: what stands between spaces, a space being any byte up to 32. Assumes nothing.
+-- The words of a line: what stands between spaces, a space being any byte up to 32.
 use Prim.Native.Nat.{ℕ, zero, suc, _+_, _-_, _<_, _≤_}
 use mathlib.Core.Path.{_≡_, _∙_, sym, refl, ap}
 use mathlib.Core.Bool.{Bool, true, false, not, cond, Bool·beq}

@@ -1,4 +1,4 @@
--- The feed of the deinterleaver. Assumes nothing.
+-- The feed of the deinterleaver.
 use borrow.Author.Needs.{needs}
 use Rattle.streams.proofs.deinterleave.Statement.{statement}
 use Rattle.streams.proofs.deinterleave.Tie as tie

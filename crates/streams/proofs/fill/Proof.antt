@@ -1,4 +1,4 @@
--- The invariant: the first i bytes are f, the others as they were. Assumes nothing.
+-- The invariant: the first i bytes are f, the others as they were.
 use Prim.Native.Nat.{ℕ, _≤_, _<_, _-_}
 use mathlib.Core.Path.{_≡_, refl, ap, _∙_}
 use mathlib.Core.List.{_++_, append-nil}

@@ -1,4 +1,4 @@
--- The feed of the interleaver. Assumes nothing.
+-- The feed of the interleaver.
 use borrow.Author.Needs.{needs}
 use Rattle.streams.proofs.interleave.Statement.{statement}
 use Rattle.streams.proofs.interleave.Tie as tie

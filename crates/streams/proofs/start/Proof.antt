@@ -1,4 +1,4 @@
--- The test of the store, and then the fill. Assumes nothing.
+-- The test of the store, and then the fill.
 use mathlib.Core.Path.{ap}
 use borrow.Author.Tests.{eq-eqb, ne-eqb}
 use Rattle.laws.specs.Outcome.{done}

@@ -1,4 +1,4 @@
--- `address_of` is L at any position: 8 by the walk's answer, 4 by its test. Assumes nothing.
+-- `address_of` is L at any position: 8 by the walk's answer, 4 by its test.
 use borrow.Author.Needs.{needs}
 use mathlib.Core.Path.{_∙_}
 use native.Mathlib.Omega.{arith}

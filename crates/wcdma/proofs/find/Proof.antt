@@ -1,4 +1,4 @@
--- `find` is the first place of an address. The invariant: its place is i places after its place in the rest. Assumes nothing.
+-- `find` is the first place of an address. The invariant: its place is i places after its place in the rest.
 use Prim.Native.Nat.{_+_, _-_, _≤_}
 use borrow.Author.Needs.{needs}
 use lib.ListN.{drop, length}

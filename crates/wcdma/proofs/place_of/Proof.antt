@@ -1,4 +1,4 @@
--- `place_of` is M at any position: 8 by the walk's answer, 4 by its test. Assumes nothing.
+-- `place_of` is M at any position: 8 by the walk's answer, 4 by its test.
 use borrow.Author.Needs.{needs}
 use lib.ListN.{length, take}
 use mathlib.Core.Path.{_∙_, _≡_, ap, sym}

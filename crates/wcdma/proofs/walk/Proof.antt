@@ -1,4 +1,4 @@
--- `walk` is the walk of the rule from any cell: 8 by the search, 9 by its test. Assumes nothing.
+-- `walk` is the walk of the rule from any cell: 8 by the search, 9 by its test.
 use Prim.Native.Nat.{_*_}
 use borrow.Author.Needs.{needs}
 use borrow.Author.Tests.{not-false}
@@ -6,9 +6,9 @@ use mathlib.Core.Bool.{not}
 use mathlib.Core.Path.{_≡_, _∙_, ap, sym}
 use native.Mathlib.Omega.{arith}
 use Rattle.laws.specs.Leaves.{leaf-fails, leaf-past}
-use Rattle.wcdma_plan.specs.Rectangle.{cells}
-use Rattle.wcdma_plan.specs.Numbers.{searchFails}
-use Rattle.wcdma_plan.specs.Shape.{cells-le}
+use Rattle.wcdma_setup.specs.Rectangle.{cells}
+use Rattle.wcdma_setup.specs.Numbers.{searchFails}
+use Rattle.wcdma_setup.specs.Shape.{cells-le}
 use Rattle.wcdma.proofs.Setup.{shape-total, went-says}
 use Rattle.wcdma.proofs.walk.Statement.{statement}
 use Rattle.wcdma.proofs.walk.Tie as tie

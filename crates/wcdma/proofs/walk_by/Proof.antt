@@ -1,10 +1,10 @@
--- `walk_by` sets up and fills. Assumes nothing.
+-- `walk_by` sets up and fills.
 use borrow.Author.Needs.{needs}
 use mathlib.Core.Path.{_∙_, ap, refl}
 use native.Mathlib.Omega.{arith}
-use Rattle.wcdma_plan.specs.Powers.{isSix}
-use Rattle.wcdma_plan.specs.Roots.{prime-root}
-use Rattle.wcdma_plan.specs.Shape.{prime-big, prime-small}
+use Rattle.wcdma_setup.specs.Powers.{isTableRoot}
+use Rattle.wcdma_setup.specs.Roots.{prime-root}
+use Rattle.wcdma_setup.specs.Shape.{prime-big, prime-small}
 use Rattle.wcdma.proofs.Setup.{column-small, fill-in, power-some, rows-some, short-le}
 use Rattle.wcdma.proofs.walk_by.Statement.{statement}
 use Rattle.wcdma.proofs.walk_by.Tie as tie
@@ -23,7 +23,7 @@ powers-requires c κs =
     record {
       big = omega (arith, prime-big (a .k), h .prime-is);
       small = omega (arith, prime-small (a .k), h .prime-is);
-      six = ap isSix (h .root-is) ∙ r .six;
+      six = ap isTableRoot (h .root-is) ∙ r .six;
       some = λ x. power-some (a .k) x (h .prime-is) (h .root-is);
       least = short-le (a .c) (a .p) _ (c .before .short-by .ensures);
       long = refl;

@@ -1,4 +1,4 @@
--- The tests in their order, and then the run. Assumes nothing.
+-- The tests in their order, and then the run.
 use mathlib.Core.Path.{ap}
 use borrow.Author.Tests.{eq-eqb, ne-eqb, le-leb, lt-leb}
 use Rattle.laws.specs.Outcome.{done}

@@ -1,4 +1,4 @@
--- The first byte of a ring comes in this turn or in the next. Assumes nothing.
+-- The first byte of a ring comes in this turn or in the next.
 use Rattle.delay.specs.Leading.{leads-on, leads-round}
 use borrow.Author.Needs.{needs}
 use Rattle.streams.proofs.Stream.lead.Statement.{statement}

@@ -1,4 +1,4 @@
--- The phase when n bytes have passed. Assumes nothing.
+-- The phase when n bytes have passed.
 use native.Mathlib.Nat.{add-mod-mod}
 use borrow.Author.Needs.{needs}
 use Rattle.streams.proofs.Stream.moved.Statement.{statement}

@@ -1,4 +1,4 @@
--- The record of a started machine. Assumes nothing.
+-- The record of a started machine.
 use mathlib.Core.Path.{refl}
 use Rattle.streams.specs.Dvb.{startRecord}
 use Rattle.streams.proofs.Stream.new.Statement.{statement}

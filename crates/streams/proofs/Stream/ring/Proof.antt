@@ -1,4 +1,4 @@
--- The ring of a branch, by the way. Assumes nothing.
+-- The ring of a branch, by the way.
 use native.Mathlib.Omega.{arith}
 use borrow.Author.Needs.{needs}
 use Rattle.streams.proofs.Stream.ring.Statement.{statement}

@@ -1,4 +1,4 @@
--- A feed, ring by ring. The invariant: the rings below x are done, and first is where ring x begins. Assumes nothing.
+-- A feed, ring by ring. The invariant: the rings below x are done, and first is where ring x begins.
 use Prim.Native.Nat.{_-_}
 use mathlib.Core.Path.{sym, _∙_}
 use native.Mathlib.Omega.{arith}

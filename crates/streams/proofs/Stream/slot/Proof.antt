@@ -1,4 +1,4 @@
--- The slot of a byte in its ring. Assumes nothing.
+-- The slot of a byte in its ring.
 use native.Mathlib.Nat.{mod-lt}
 use mathlib.Core.Path.{refl}
 use native.Mathlib.Omega.{arith}

@@ -1,4 +1,4 @@
--- The bytes of a ring, counted by one division. Assumes nothing.
+-- The bytes of a ring, counted by one division.
 use native.Mathlib.Nat.{div-le-self}
 use native.Mathlib.Omega.{arith}
 use Rattle.delay.specs.Loops.{left-some}

@@ -1,4 +1,4 @@
--- The invariant: since the stretch began, the bytes below i are moved, and place is where byte i goes. Assumes nothing.
+-- The invariant: since the stretch began, the bytes below i are moved, and place is where byte i goes.
 use mathlib.Core.Path.{refl}
 use Prim.Native.Nat.{_-_}
 use native.Mathlib.Omega.{arith}

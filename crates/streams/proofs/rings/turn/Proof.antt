@@ -1,4 +1,4 @@
--- The invariant: of the ring, the bytes below i are moved, place is where byte i goes, and left bytes are still to come. Assumes nothing.
+-- The invariant: of the ring, the bytes below i are moved, place is where byte i goes, and left bytes are still to come.
 use Prim.Native.Nat.{_-_, _<_, _≤_}
 use native.Mathlib.Omega.{arith}
 use lib.ListN.{length}

@@ -1,4 +1,4 @@
--- `entry_at` is U(j), case by case. Assumes nothing.
+-- `entry_at` is U(j), case by case.
 use borrow.Author.Needs.{needs}
 use borrow.Author.Tests.{eq-eqb, le-ltb, lt-ltb, ne-eqb}
 use Rattle.wcdma.proofs.cells.entry_at.Statement.{statement}

@@ -1,4 +1,4 @@
--- `fill` walks the cells. The invariant: the walk stands at a cell, row i of column j, with the exponents of the rows there. Assumes nothing.
+-- `fill` walks the cells. The invariant: the walk stands at a cell, row i of column j, with the exponents of the rows there.
 use Prim.Native.Nat.{_*_, _-_, _<_, _≤_}
 use borrow.Author.Tests.{eqb-true, leb-true}
 use lib.Dec.{eqb}
@@ -11,8 +11,8 @@ use Rattle.laws.specs.Members.{both}
 use Rattle.laws.specs.Written.{Written, begun, ended}
 use Rattle.laws.specs.declared.Leaf.the-variants.{Went}
 use Rattle.laws.specs.Walk.{walkCells, walkList, walkSlice}
-use Rattle.wcdma_plan.specs.Rectangle.{cells, cols}
-use Rattle.wcdma_plan.specs.Shape.{cells-le, cols-high, prime-small, product-small, rows-le, rows-pos}
+use Rattle.wcdma_setup.specs.Rectangle.{cells, cols}
+use Rattle.wcdma_setup.specs.Shape.{cells-le, cols-high, prime-small, product-small, rows-le, rows-pos}
 use Rattle.wcdma.proofs.Cell.{cell-on, column-fits, column-on, place-on}
 use Rattle.wcdma.proofs.Place.{Place, column-le, exponents-to, exponents-top, place-column, place-down, place-over}
 use Rattle.wcdma.specs.Post.{Exponents}

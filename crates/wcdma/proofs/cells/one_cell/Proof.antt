@@ -1,12 +1,12 @@
--- `one_cell` passes one cell: its address is written or passed over, and the exponent of its row is that of the next column. Assumes nothing.
+-- `one_cell` passes one cell: its address is written or passed over, and the exponent of its row is that of the next column.
 use Prim.Native.Nat.{_*_, _+_, ℕ}
 use borrow.Author.Needs.{needs}
 use lib.ListN.{getD, length-set, set}
 use mathlib.Core.Path.{_≡_, refl}
 use native.Mathlib.Omega.{arith}
-use Rattle.wcdma_plan.specs.Rectangle.{rows}
-use Rattle.wcdma_plan.specs.Shape.{cells-le}
-use Rattle.wcdma.proofs.Cell.{address-is, bump-in, cell-inside, exponent-small, goes-put, goes-skip, prime-pos, raised-is, row-small}
+use Rattle.wcdma_setup.specs.Rectangle.{rows}
+use Rattle.wcdma_setup.specs.Shape.{cells-le}
+use Rattle.wcdma.proofs.Cell.{address-is, exponent-in, cell-inside, exponent-small, goes-put, goes-skip, prime-pos, raised-is, row-small}
 use Rattle.wcdma.proofs.Place.{exponents-down}
 use Rattle.wcdma.specs.Law.{address-lt}
 use Rattle.wcdma.specs.Post.{Exponents}
@@ -25,12 +25,12 @@ here-is : (c : tie.After-entry-at) → getD (start c .args .base .now) (start c 
 here-is c = address-is (start c .pre) (c .before .wide16 .result) (c .entry-at .result) (c .before .wide16 .ensures) (c .entry-at .ensures)
 
 next-exponents :
-    (c : tie.After-bump) →
+    (c : tie.After-next-exponent) →
     Exponents (start (c .before .before .before) .args .shape .k) (start (c .before .before .before) .args .i + 1) (start (c .before .before .before) .args .j)
-    (set (start (c .before .before .before) .args .e .now) (start (c .before .before .before) .args .i) (c .bump .result))
+    (set (start (c .before .before .before) .args .e .now) (start (c .before .before .before) .args .i) (c .next-exponent .result))
 next-exponents c =
     let z = start (c .before .before .before) .pre in
-    exponents-down _ (z .exponents) (z .row) (c .bump .result) (raised-is z (c .bump .result) (c .bump .ensures))
+    exponents-down _ (z .exponents) (z .row) (c .next-exponent .result) (raised-is z (c .next-exponent .result) (c .next-exponent .ensures))
 
 mul-x : tie.Need-mul-x
 mul-x c = omega (arith, row-small (c .before .pre))
@@ -59,17 +59,17 @@ element-copy-out-a c = row-small (c .before .before .before .before .before .pre
 add-a : tie.Need-add-a
 add-a c = let z = start (c .before) .pre in omega (arith, here-is (c .before), address-lt (start (c .before) .args .shape .k) (cell (c .before)) (cell-inside z), cells-le (start (c .before) .args .shape .k))
 
-mul-bump : tie.Need-mul-bump
-mul-bump c = omega (arith, row-small (c .before .before .before .before .before .before .pre))
+mul-next-exponent : tie.Need-mul-next-exponent
+mul-next-exponent c = omega (arith, row-small (c .before .before .before .before .before .before .pre))
 
-element-copy-out-bump : tie.Need-element-copy-out-bump
-element-copy-out-bump c = row-small (c .before .before .before .before .before .before .pre)
+element-copy-out-next-exponent : tie.Need-element-copy-out-next-exponent
+element-copy-out-next-exponent c = row-small (c .before .before .before .before .before .before .pre)
 
-sub-bump : tie.Need-sub-bump
-sub-bump c = prime-pos (c .before .before .before .before .before .before .before .pre)
+sub-next-exponent : tie.Need-sub-next-exponent
+sub-next-exponent c = prime-pos (c .before .before .before .before .before .before .before .pre)
 
-bump-requires : tie.Need-bump-requires
-bump-requires c κs = bump-in (c .before .before .before .before .before .before .before .pre)
+next-exponent-requires : tie.Need-next-exponent-requires
+next-exponent-requires c κs = exponent-in (c .before .before .before .before .before .before .before .pre)
 
 mul-e : tie.Need-mul-e
 mul-e c = omega (arith, row-small (c .before .before .before .before .before .before .before .before .pre))
@@ -115,10 +115,10 @@ one-cell-spec =
     mul-a
     element-copy-out-a
     add-a
-    mul-bump
-    element-copy-out-bump
-    sub-bump
-    bump-requires
+    mul-next-exponent
+    element-copy-out-next-exponent
+    sub-next-exponent
+    next-exponent-requires
     mul-e
     element-write-e
     cast-out

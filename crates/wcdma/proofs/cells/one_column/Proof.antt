@@ -1,11 +1,11 @@
--- `one_column` passes the cells of a column. The invariant: the walk has gone on by i cells. Assumes nothing.
+-- `one_column` passes the cells of a column. The invariant: the walk has gone on by i cells.
 use Prim.Native.Nat.{_*_, _+_, _-_, _≤_}
 use lib.ListN.{length}
 use mathlib.Core.Path.{_∙_, _≡_, refl, sym}
 use native.Mathlib.Nat.{add-assoc, add-zero}
 use native.Mathlib.Omega.{arith}
-use Rattle.wcdma_plan.specs.Rectangle.{rows}
-use Rattle.wcdma_plan.specs.Shape.{rows-le}
+use Rattle.wcdma_setup.specs.Rectangle.{rows}
+use Rattle.wcdma_setup.specs.Shape.{rows-le}
 use Rattle.wcdma.proofs.Place.{exponents-top}
 use Rattle.wcdma.specs.Post.{Exponents, Goes}
 use Rattle.wcdma.proofs.cells.one_column.Statement.{statement}

@@ -1,4 +1,4 @@
--- `first_exponent` is the exponent of a row where a walk starts. Assumes nothing.
+-- `first_exponent` is the exponent of a row where a walk starts.
 use Prim.Native.Nat.{_+_}
 use borrow.Author.Needs.{needs}
 use borrow.Author.Tests.{le-ltb, lt-ltb}

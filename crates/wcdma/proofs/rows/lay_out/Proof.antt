@@ -1,4 +1,4 @@
--- `lay_out` lays out the rows. The invariant: the rows below x are laid out. Assumes nothing.
+-- `lay_out` lays out the rows. The invariant: the rows below x are laid out.
 use Prim.Native.Nat.{_%_, _*_, _-_, _<_, _≤_, ℕ}
 use borrow.Author.Count.{below-none}
 use borrow.Author.Needs.{needs}
@@ -7,10 +7,10 @@ use mathlib.Core.Path.{_∙_, _≡_}
 use native.Mathlib.Nat.{le-of-lt, mod-lt}
 use native.Mathlib.Omega.{arith}
 use Rattle.laws.specs.Entries.{fill-more}
-use Rattle.wcdma_plan.specs.Numbers.{qOf}
-use Rattle.wcdma_plan.specs.Orders.{rowAt}
-use Rattle.wcdma_plan.specs.Rectangle.{cols, prime, rows}
-use Rattle.wcdma_plan.specs.Shape.{cols-high, prime-big, prime-small, product-small, rows-le}
+use Rattle.wcdma_setup.specs.Numbers.{qOf}
+use Rattle.wcdma_setup.specs.Orders.{rowAt}
+use Rattle.wcdma_setup.specs.Rectangle.{cols, prime, rows}
+use Rattle.wcdma_setup.specs.Shape.{cols-high, prime-big, prime-small, product-small, rows-le}
 use Rattle.wcdma.proofs.Place.{fall-is, start-is}
 use Rattle.wcdma.specs.Law.{row-lt}
 use Rattle.wcdma.specs.Post.{LayIn, nextCol}

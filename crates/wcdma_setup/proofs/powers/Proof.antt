@@ -1,0 +1,86 @@
+-- `powers` fills S step by step. The invariant: the powers below x stand in their places, and last is the power x.
+use Prim.Native.Nat.{_-_, _<_, _≤_, ℕ}
+use borrow.Author.Count.{below-none}
+use borrow.Author.Needs.{needs}
+use lib.ListN.{getD, length, length-set}
+use mathlib.Core.Path.{_∙_, _≡_, ap, refl}
+use native.Mathlib.Nat.{mod-lt}
+use native.Mathlib.Omega.{arith}
+use Rattle.laws.specs.Entries.{fill-more}
+use Rattle.wcdma_setup.proofs.Steps.{power-next}
+use Rattle.wcdma_setup.specs.Powers.{power}
+use Rattle.wcdma_setup.proofs.powers.Statement.{statement}
+use Rattle.wcdma_setup.proofs.powers.Tie as tie
+
+abbrev Inv-loop : tie.InvT-loop
+Inv-loop p v less s₀ m last₀ x₀ s last x = (x ≤ m) × (length s ≡ 256) × (last < p) × (last ≡ power p v x) × ((y : ℕ) → y < x → getD s y 0 ≡ power p v y - less)
+
+abbrev μ-loop : tie.MeasureT-loop
+μ-loop p v less s₀ m last₀ x₀ s last x = m - x
+
+sub-m : tie.Need-sub-m Inv-loop μ-loop
+sub-m c = search needs
+
+cast-m : tie.Need-cast-m Inv-loop μ-loop
+cast-m c = search needs
+
+loop-holds : tie.Need-loop-holds Inv-loop μ-loop
+unfolding power
+loop-holds c = (omega arith, c .pre .long, omega (arith, c .pre .big), refl, below-none _)
+
+sub-s : tie.Need-sub-s Inv-loop μ-loop
+sub-s c = let l = c .before .loop in omega (arith, l .inv .3, c .before .before .pre .some (l .x), c .before .before .pre .least)
+
+cast-s : tie.Need-cast-s Inv-loop μ-loop
+cast-s c = let l = c .before .loop in omega (arith, l .inv .2, c .before .before .pre .small)
+
+mul-s : tie.Need-mul-s Inv-loop μ-loop
+mul-s c = omega (arith, c .loop-test .taken, c .before .before .pre .small)
+
+element-write-s : tie.Need-element-write-s Inv-loop μ-loop
+element-write-s c = omega (arith, c .loop-test .taken, c .before .before .pre .small)
+
+next-power-requires : tie.Need-next-power-requires Inv-loop μ-loop
+next-power-requires c κs = let z = c .before .before .pre in record { big = z .big; small = z .small; six = z .six; below = c .before .loop .inv .2 }
+
+add-x : tie.Need-add-x Inv-loop μ-loop
+add-x c = omega (arith, c .before .loop-test .taken, c .before .before .before .pre .small)
+
+loop-less : tie.Need-loop-less Inv-loop μ-loop
+loop-less c = search needs
+
+loop-again : tie.Need-loop-again Inv-loop μ-loop
+loop-again c =
+    let l = c .before .before .loop in
+    let e = c .next-power .ensures in
+    let a = c .before .before .before .args in
+    let z = c .before .before .before .pre in (
+      omega (arith, c .before .loop-test .taken),
+      simp length-set (l .inv .1),
+      rw e (mod-lt _ (omega (arith, z .big))),
+      e ∙ power-next _ _ (l .x) (l .last) (l .inv .3),
+      fill-more (λ y. power (a .p) (a .v) y - a .less) (l .s) (l .x) (l .last - a .less)
+          (omega (arith, l .inv .1, c .before .loop-test .taken, z .small)) (ap (λ (y : ℕ). y - a .less) (l .inv .3)) (l .inv .4),
+    )
+
+returns : tie.Need-returns Inv-loop μ-loop
+returns c = λ x h. c .before .loop .inv .4 x (omega (arith, c .loop-test .left))
+
+pub powers-spec : {M : Type 1} → statement M
+powers-spec =
+    tie.close
+    (tie.spec
+    Inv-loop
+    μ-loop
+    sub-m
+    cast-m
+    loop-holds
+    sub-s
+    cast-s
+    mul-s
+    element-write-s
+    next-power-requires
+    add-x
+    loop-less
+    loop-again
+    returns)

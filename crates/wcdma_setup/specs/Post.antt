@@ -1,0 +1,73 @@
+-- What the functions of the plan are given and ensure, part by part. These are definitions.
+use Prim.Native.Nat.{ℕ, _-_, _%_, _<_, _≤_}
+use mathlib.Core.List.{List}
+use mathlib.Core.Bool.{Bool, true, cond}
+use mathlib.Core.Path.{_≡_}
+use lib.ListN.{getD, length}
+use lib.Dec.{eqb}
+use Rattle.wcdma_setup.specs.declared.Shape.{Shape}
+use Rattle.wcdma_setup.specs.Rectangle.{Size, rows, primes, prime, cols}
+use Rattle.wcdma_setup.specs.Powers.{power, root, isTableRoot}
+use Rattle.wcdma_setup.specs.Numbers.{nextQ, qOf, allFound}
+use Rattle.wcdma_setup.specs.Orders.{orderOf}
+
+-- a shape holds R, p, C and v of its size
+pub record ShapeOf (s : Shape) : Type 0 where
+  pub size : Size (s .k)
+  pub rows-is : s .r ≡ rows (s .k)
+  pub prime-is : s .p ≡ prime (s .k)
+  pub cols-is : s .c ≡ cols (s .k)
+  pub root-is : s .v ≡ root (prime (s .k))
+
+-- what the search for p is given: R and the table
+pub record PlaceIn (k r : ℕ) (list : List ℕ) : Type 0 where
+  pub size : Size k
+  pub rows-is : r ≡ rows k
+  pub table-is : list ≡ primes
+
+pub record PlaceOf (k n : ℕ) : Type 0 where
+  pub listed : n < 52
+  pub prime-is : getD primes n 0 ≡ prime k
+
+pub record ColsIn (k r p : ℕ) : Type 0 where
+  pub size : Size k
+  pub rows-is : r ≡ rows k
+  pub prime-is : p ≡ prime k
+
+-- the next q, or 0; it is odd
+pub record NextOf (m last r : ℕ) : Type 0 where
+  pub next-is : r ≡ nextQ m last
+  pub odd : (r ≡ 0 → ⊥) → r % 2 ≡ 1
+
+pub record NumbersIn (r : ℕ) (q : List ℕ) : Type 0 where
+  pub some : 0 < r
+  pub few : r ≤ 20
+  pub long : length q ≡ 20
+
+-- whether all r numbers are found, and where they are, the numbers
+pub record NumbersOf (m r : ℕ) (q : List ℕ) (found : Bool) : Type 0 where
+  pub all : found ≡ allFound m 1 (r - 1)
+  pub each : found ≡ true → (i : ℕ) → i < r → getD q i 0 ≡ qOf m i
+
+-- how much less than the power a column's number is: 1 where there are p - 1 columns
+abbrev pub shortBy : ℕ → ℕ → ℕ
+shortBy c p = cond (eqb c (p - 1)) 1 0
+
+pub record StepIn (p v last : ℕ) : Type 0 where
+  pub big : 6 < p
+  pub small : p < 258
+  pub six : isTableRoot v ≡ true
+  pub below : last < p
+
+pub record PowersIn (p v less : ℕ) (s : List ℕ) : Type 0 where
+  pub big : 6 < p
+  pub small : p < 258
+  pub six : isTableRoot v ≡ true
+  pub some : (x : ℕ) → 0 < power p v x
+  pub least : less ≤ 1
+  pub long : length s ≡ 256
+
+pub record RowIn (k r i : ℕ) (order : List ℕ) : Type 0 where
+  pub rows-is : r ≡ rows k
+  pub below : i < r
+  pub order-is : order ≡ orderOf k
