@@ -6,7 +6,7 @@ use Rattle.laws.specs.Outcome.{after}
 use Rattle.sets.specs.declared.Set.{Set}
 use Rattle.walks.specs.Rules.{L}
 use Rattle.tables.specs.Answer.{blockLines}
-use Rattle.tables.specs.Moves.{movedBy}
+use Rattle.movers.specs.Moves.{movedBy}
 
 -- out[t] = in[L(t)] after interleaving, out[L(t)] = in[t] after deinterleaving; where a line applies, what stood there. z is getD's default: an
 -- accepted call never reads it

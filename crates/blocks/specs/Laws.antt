@@ -11,7 +11,7 @@ use Rattle.laws.specs.Move.{gather, getD-gather, length-gather, back}
 use Rattle.sets.specs.declared.Set.{Set}
 use Rattle.walks.specs.Rules.{L, ruleOf, ruleIn}
 use Rattle.tables.specs.Answer.{blockLines, movedOf}
-use Rattle.tables.specs.Moves.{other, perm-in, movedBy, moved-is, moved-any, moved-blind}
+use Rattle.movers.specs.Moves.{other, perm-in, movedBy, moved-is, moved-any, moved-blind}
 use Rattle.tables.specs.Passed.{all-clear, its-perm, its-lengths, its-output}
 use Rattle.blocks.specs.Answer.{moved}
 

@@ -10,7 +10,7 @@ use Rattle.sets.specs.declared.Set.{Set}
 use Rattle.walks.specs.Rules.{L}
 use Rattle.tables.specs.declared.Moved.{Moved}
 use Rattle.tables.specs.declared.Moved.the-variants.{Done}
-use Rattle.tables.specs.Moves.{Fitting, movedBy, moved-same}
+use Rattle.movers.specs.Moves.{Fitting, movedBy, moved-same}
 use Rattle.tables.specs.Passed.{Filled, its-lengths, done-answer, done-output}
 use Rattle.blocks.specs.Answer.{moved}
 

@@ -7,7 +7,7 @@ use Rattle.laws.specs.declared.Way.{Way}
 use Rattle.laws.specs.Sentences.{FirstTrue}
 use Rattle.sets.specs.declared.Set.{Set}
 use Rattle.walks.specs.Rules.{L}
-use Rattle.tables.specs.Moves.{movedBy}
+use Rattle.movers.specs.Moves.{movedBy}
 use Rattle.tables.specs.Refusals.{blockSentences, buffer-kept}
 use Rattle.blocks.specs.Answer.{moved}
 

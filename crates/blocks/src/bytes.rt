@@ -8,39 +8,9 @@ use tables::SMALL;
 ghost use mathlib.Core.Path.{_≡_};
 ghost use lib.ListN.{length};
 ghost use Rattle.laws.specs.declared.Way.the-variants.{Interleaver, Deinterleaver};
-ghost use Rattle.laws.specs.Loop.{by};
 ghost use Rattle.tables.specs.Answer.{movedOf, sayMoved};
-ghost use Rattle.tables.specs.Moves.{Fitting, movedBy};
 ghost use Rattle.tables.specs.Passed.{Roomy};
 ghost use Rattle.blocks.specs.Answer.{moved};
-
-// dst[t] = src[table[t]].
-fn gather_by(table: &[u16], src: &[u8], dst: &mut [u8])
-    requires { ⌜ Fitting (now table) (now src) (now dst) ⌝ }
-    ensures { λ _. ⌜ now (dst .exit)
-        ≡ movedBy Interleaver (by (now (table .entry))) (length (now (src .entry))) 0 (now (src .entry)) (now (dst .entry)) ⌝ }
-{
-    let mut i = 0;
-    while i < dst.len() {
-        let a = table[i] as usize;
-        dst[i] = src[a];
-        i += 1;
-    }
-}
-
-// dst[table[t]] = src[t].
-fn scatter_by(table: &[u16], src: &[u8], dst: &mut [u8])
-    requires { ⌜ Fitting (now table) (now src) (now dst) ⌝ }
-    ensures { λ _. ⌜ now (dst .exit)
-        ≡ movedBy Deinterleaver (by (now (table .entry))) (length (now (src .entry))) 0 (now (src .entry)) (now (dst .entry)) ⌝ }
-{
-    let mut i = 0;
-    while i < src.len() {
-        let a = table[i] as usize;
-        dst[a] = src[i];
-        i += 1;
-    }
-}
 
 // Moves a block by a lent table.
 fn move_by(way: Way, set: Set, table: &mut [u16], src: &[u8], dst: &mut [u8]) -> Moved
@@ -53,8 +23,8 @@ fn move_by(way: Way, set: Set, table: &mut [u16], src: &[u8], dst: &mut [u8]) ->
         Moved::Refused(x) => Moved::Refused(x),
         Moved::Done => {
             match way {
-                Way::Interleaver => gather_by(table, src, dst),
-                Way::Deinterleaver => scatter_by(table, src, dst),
+                Way::Interleaver => movers::bytes::gather_by(table, src, dst),
+                Way::Deinterleaver => movers::bytes::scatter_by(table, src, dst),
             }
             Moved::Done
         }

@@ -22,7 +22,7 @@ use Rattle.tables.specs.Answer.{blockLines, movedOf}
 use Rattle.streams.specs.declared.Stream.{Stream}
 use Rattle.streams.specs.Answers.{startLines, feedLines, startedOf, fedOf}
 use Rattle.streams.specs.Dvb.{startRecord, fedRecord}
-use Rattle.exports.specs.Flat.{numberBy, numberOf, streamNumberOf, outOf, phaseOut}
+use Rattle.flat.specs.Flat.{numberBy, numberOf, streamNumberOf, outOf, phaseOut}
 
 -- no line has the number 0
 abbrev pub Numbered : List Line → Type 0

@@ -1,33 +1,9 @@
 // The DVB byte stream: a lent store, and the phase behind a pointer.
 use laws::Way;
-use streams::Fed;
-use streams::Started;
-use streams::Stream;
 ghost use mathlib.Core.Path.{_≡_};
 ghost use Rattle.laws.specs.declared.Way.the-variants.{Interleaver, Deinterleaver};
-ghost use Rattle.streams.specs.Answers.{sayStarted, sayFed, startedOf, startedStore, fedOf, storeOf, outputOf};
-ghost use Rattle.exports.specs.Flat.{streamOf, streamNumberOf, phaseOut};
-
-// A stream's record, as it is lent.
-fn record_of(phase: u32) -> Stream
-    ensures { λ r. ⌜ r ≡ streamOf phase ⌝ }
-{
-    Stream { phase }
-}
-
-// Takes the answer of a start apart.
-fn started(s: Started, phase: &mut u32) -> u32
-    ensures number { λ r. ⌜ r ≡ streamNumberOf (sayStarted s) ⌝ }
-    ensures phase { λ r. ⌜ now (phase .exit) ≡ phaseOut (sayStarted s) (now (phase .entry)) ⌝ }
-{
-    match s {
-        Started::Ready(first) => {
-            *phase = first.phase;
-            0
-        }
-        Started::Refused(k) => k,
-    }
-}
+ghost use Rattle.streams.specs.Answers.{startedOf, startedStore, fedOf, storeOf, outputOf};
+ghost use Rattle.flat.specs.Flat.{streamOf, streamNumberOf, phaseOut};
 
 // Starts a machine, of either way. Refusal 7.
 #[no_mangle]
@@ -36,21 +12,7 @@ pub extern "C" fn interleaver_dvb_start(store: &mut [u8], fill: u8, phase: &mut 
     ensures store { λ r. ⌜ now (store .exit) ≡ startedStore fill (now (store .entry)) ⌝ }
     ensures phase { λ r. ⌜ now (phase .exit) ≡ phaseOut (startedOf (now (store .entry))) (now (phase .entry)) ⌝ }
 {
-    started(streams::start(store, fill), phase)
-}
-
-// Takes the answer of a feed apart.
-fn fed(f: Fed, phase: &mut u32) -> u32
-    ensures number { λ r. ⌜ r ≡ streamNumberOf (sayFed f) ⌝ }
-    ensures phase { λ r. ⌜ now (phase .exit) ≡ phaseOut (sayFed f) (now (phase .entry)) ⌝ }
-{
-    match f {
-        Fed::Next(next) => {
-            *phase = next.phase;
-            0
-        }
-        Fed::Refused(k) => k,
-    }
+    flat::started(streams::start(store, fill), phase)
 }
 
 // Feeds the machine of a way.
@@ -64,7 +26,7 @@ fn feed(way: Way, phase: &mut u32, store: &mut [u8], input: &[u8], out: &mut [u8
     ensures output { λ r. ⌜ now (out .exit)
         ≡ outputOf way (streamOf (now (phase .entry))) (now (store .entry)) (now (input .entry)) (now (out .entry)) ⌝ }
 {
-    fed(record_of(*phase).feed(way, store, input, out), phase)
+    flat::fed(flat::record_of(*phase).feed(way, store, input, out), phase)
 }
 
 // Feeds the interleaver. Refusals 7, 9, 6.

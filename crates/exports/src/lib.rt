@@ -3,21 +3,3 @@
 pub mod lists; // lists.rt: the test of a set, addresses, walks
 pub mod moves; // moves.rt: whole blocks
 pub mod dvb; // dvb.rt: the byte stream
-
-use sets::Set;
-ghost use mathlib.Core.Path.{_≡_};
-ghost use Rattle.exports.specs.Flat.{setOf};
-
-// How many numbers a set is.
-pub const SET: usize = 3;
-
-// The set that is lent: profile, bits, n.
-fn set_of(set: &[u32; SET]) -> Set
-    ensures { λ r. ⌜ r ≡ setOf (now (set .entry)) ⌝ }
-{
-    Set {
-        profile: set[0],
-        bits: set[1],
-        n: set[2],
-    }
-}

@@ -1,48 +1,19 @@
 // A parameter set tested, one address, a list of addresses.
-use super::SET;
-use super::set_of;
+use flat::SET;
 use laws::Way;
-use sets::Verdict;
-use walks::Found;
-use walks::Walk;
-use walks::Walked;
 ghost use mathlib.Core.Path.{_≡_};
 ghost use Prim.Native.Nat.{ℕ};
 ghost use Rattle.laws.specs.declared.Way.the-variants.{Interleaver, Deinterleaver};
-ghost use Rattle.sets.specs.Verdict.{verdictOf, sayVerdict};
-ghost use Rattle.walks.specs.Answer.{sliceOf, foundOf, sayWalked, sayFound, Values};
-ghost use Rattle.exports.specs.Flat.{setOf, walkOf, lentWalk, numberOf, outOf};
-
-// The number of a verdict.
-fn tested(v: Verdict) -> u32
-    ensures { λ r. ⌜ r ≡ numberOf (sayVerdict v) ⌝ }
-{
-    match v {
-        Verdict::Accepted => 0,
-        Verdict::Refused(x) => x.number,
-    }
-}
+ghost use Rattle.sets.specs.Verdict.{verdictOf};
+ghost use Rattle.walks.specs.Answer.{sliceOf, foundOf, Values};
+ghost use Rattle.flat.specs.Flat.{setOf, walkOf, lentWalk, numberOf, outOf};
 
 // The test of a set. Refusals 1, 2, 3.
 #[no_mangle]
 pub extern "C" fn interleaver_test(set: &[u32; SET]) -> u32
     ensures { λ r. ⌜ r ≡ numberOf (verdictOf (setOf (now (set .entry)))) ⌝ }
 {
-    tested(sets::test(set_of(set)))
-}
-
-// Takes the answer for one address apart.
-fn found(f: Found, address: &mut u32) -> u32
-    ensures number { λ r. ⌜ r ≡ numberOf (sayFound f) ⌝ }
-    ensures address { λ r. ⌜ now (address .exit) ≡ outOf (sayFound f) (λ (a : ℕ). a) (now (address .entry)) ⌝ }
-{
-    match f {
-        Found::At(a) => {
-            *address = a;
-            0
-        }
-        Found::Refused(x) => x.number,
-    }
+    flat::tested(sets::test(flat::set_of(set)))
 }
 
 // One address of the set that is lent, either way.
@@ -51,7 +22,7 @@ fn find(way: Way, set: &[u32; SET], x: u32, address: &mut u32) -> u32
     ensures address { λ r. ⌜ now (address .exit)
         ≡ outOf (foundOf way (setOf (now (set .entry))) x) (λ (a : ℕ). a) (now (address .entry)) ⌝ }
 {
-    found(walks::address_by(way, set_of(set), x), address)
+    flat::found(walks::address_by(way, flat::set_of(set), x), address)
 }
 
 // L(t). Refusals 1, 2, 3, 8, 4.
@@ -72,36 +43,6 @@ pub extern "C" fn interleaver_address_m(set: &[u32; SET], k: u32, address: &mut 
         ≡ outOf (foundOf Deinterleaver (setOf (now (set .entry))) k) (λ (a : ℕ). a) (now (address .entry)) ⌝ }
 {
     find(Way::Deinterleaver, set, k, address)
-}
-
-// A walk's record, as it is lent.
-fn walk_of(set: &[u32; SET], cell: u32) -> Walk
-    ensures { λ r. ⌜ r ≡ walkOf (now (set .entry)) cell ⌝ }
-{
-    let set = set_of(set);
-    Walk { set, cell }
-}
-
-// Takes the answer of a walk apart.
-fn walked(w: Walked, cell: &mut u32, written: &mut u32, cells: &mut u32) -> u32
-    ensures number { λ r. ⌜ r ≡ numberOf (sayWalked w) ⌝ }
-    ensures cell { λ r. ⌜ now (cell .exit) ≡ outOf (sayWalked w) (λ (v : Values). v .next .cell) (now (cell .entry)) ⌝ }
-    ensures written { λ r. ⌜ now (written .exit) ≡ outOf (sayWalked w) (λ (v : Values). v .written) (now (written .entry)) ⌝ }
-    ensures cells { λ r. ⌜ now (cells .exit) ≡ outOf (sayWalked w) (λ (v : Values). v .cells) (now (cells .entry)) ⌝ }
-{
-    match w {
-        Walked::Done {
-            written: k,
-            next,
-            cells: c,
-        } => {
-            *cell = next.cell;
-            *written = k;
-            *cells = c;
-            0
-        }
-        Walked::Refused(x) => x.number,
-    }
 }
 
 // The walk of a way from `cell` on, which moves on.
@@ -126,8 +67,8 @@ fn walk_on(
         ≡ outOf (lentWalk way (now (set .entry)) (now (cell .entry)) (now (out .entry)))
         (λ (v : Values). v .cells) (now (cells .entry)) ⌝ }
 {
-    walked(
-        walks::walk_by(way, walk_of(set, *cell), out),
+    flat::walked(
+        walks::walk_by(way, flat::walk_of(set, *cell), out),
         cell,
         written,
         cells,

@@ -1,25 +1,12 @@
 // Whole blocks, of bytes, of f32 soft values, and of symbols of any width. Refusals 1, 2, 3, 8, 5, 6, in every call.
-use super::SET;
-use super::set_of;
+use flat::SET;
 use laws::Way;
-use tables::Moved;
 ghost use mathlib.Core.Path.{_≡_};
 ghost use lib.Ieee.{nan};
 ghost use Rattle.laws.specs.declared.Way.the-variants.{Interleaver, Deinterleaver};
-ghost use Rattle.tables.specs.Answer.{sayMoved};
 ghost use Rattle.blocks.specs.Answer.{moved};
 ghost use Rattle.symbols.specs.Answer.{movedSymbols};
-ghost use Rattle.exports.specs.Flat.{setOf, lentBlock, lentSymbols, numberOf};
-
-// The number of a block's answer.
-fn told(m: Moved) -> u32
-    ensures { λ r. ⌜ r ≡ numberOf (sayMoved m) ⌝ }
-{
-    match m {
-        Moved::Done => 0,
-        Moved::Refused(x) => x.number,
-    }
-}
+ghost use Rattle.flat.specs.Flat.{setOf, lentBlock, lentSymbols, numberOf};
 
 // Moves N bytes, either way.
 fn move_bytes(way: Way, set: &[u32; SET], src: &[u8], dst: &mut [u8]) -> u32
@@ -27,7 +14,7 @@ fn move_bytes(way: Way, set: &[u32; SET], src: &[u8], dst: &mut [u8]) -> u32
     ensures output { λ r. ⌜ now (dst .exit)
         ≡ moved way (setOf (now (set .entry))) 0 (now (src .entry)) (now (dst .entry)) ⌝ }
 {
-    told(blocks::bytes::move_block(way, set_of(set), src, dst))
+    flat::told(blocks::bytes::move_block(way, flat::set_of(set), src, dst))
 }
 
 // Interleaves N bytes.
@@ -60,7 +47,7 @@ fn move_soft(way: Way, set: &[u32; SET], src: &[f32], dst: &mut [f32]) -> u32
     ensures output { λ r. ⌜ now (dst .exit)
         ≡ moved way (setOf (now (set .entry))) nan (now (src .entry)) (now (dst .entry)) ⌝ }
 {
-    told(blocks::soft::move_block(way, set_of(set), src, dst))
+    flat::told(blocks::soft::move_block(way, flat::set_of(set), src, dst))
 }
 
 // Interleaves N soft values.
@@ -93,7 +80,7 @@ fn move_symbols(way: Way, set: &[u32; SET], width: u32, src: &[u8], dst: &mut [u
     ensures output { λ r. ⌜ now (dst .exit)
         ≡ movedSymbols way (setOf (now (set .entry))) width (now (src .entry)) (now (dst .entry)) ⌝ }
 {
-    told(symbols::move_symbols(way, set_of(set), width, src, dst))
+    flat::told(symbols::move_symbols(way, flat::set_of(set), width, src, dst))
 }
 
 // Interleaves N symbols of `width` bytes.

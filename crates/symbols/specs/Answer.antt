@@ -1,18 +1,13 @@
 -- A whole block of N symbols, each of w bytes, moved either way: the output after the call. Over any element in place of a byte.
 use Prim.Native.Nat.{ℕ, _*_}
-use mathlib.Core.List.{List, []}
+use mathlib.Core.List.{List}
 use lib.ListN.{length}
 use Rattle.laws.specs.declared.Way.{Way}
 use Rattle.laws.specs.Outcome.{after}
 use Rattle.sets.specs.declared.Set.{Set}
 use Rattle.walks.specs.Rules.{L}
 use Rattle.tables.specs.Answer.{blockLines}
-use Rattle.tables.specs.Moves.{movedBy}
-use Rattle.symbols.specs.Groups.{groups, joined}
-
--- n symbols of w entries moved by a list: the groups of w are moved, and joined again. [] is getD's default: an accepted call never reads it
-abbrev pub symbolsBy : {A : Type 0} → Way → (ℕ → ℕ) → ℕ → ℕ → List A → List A → List A
-symbolsBy way l n w src dst = joined (movedBy way l n [] (groups w n src) (groups w n dst))
+use Rattle.movers.specs.Grouped.{symbolsBy}
 
 -- symbol t of the output is symbol L(t) of the input after interleaving, symbol L(t) of it symbol t after deinterleaving; where a line applies, the
 -- output is what it was. A block has N · w bytes

@@ -9,9 +9,10 @@ use Rattle.laws.specs.Outcome.{after, after-map}
 use Rattle.sets.specs.declared.Set.{Set}
 use Rattle.walks.specs.Rules.{L}
 use Rattle.tables.specs.Answer.{blockLines}
-use Rattle.tables.specs.Moves.{movedBy, moved-blind}
-use Rattle.symbols.specs.Groups.{groups, joined}
-use Rattle.symbols.specs.Answer.{symbolsBy, movedSymbols}
+use Rattle.movers.specs.Moves.{movedBy, moved-blind}
+use Rattle.movers.specs.Groups.{groups, joined}
+use Rattle.movers.specs.Grouped.{symbolsBy}
+use Rattle.symbols.specs.Answer.{movedSymbols}
 
 module _ {A B : Type 0} (h : A → B) where
   map-take : (n : ℕ) (xs : List A) → take n (map h xs) ≡ map h (take n xs)

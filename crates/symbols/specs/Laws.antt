@@ -11,11 +11,12 @@ use Rattle.laws.specs.Move.{gather, getD-gather, back}
 use Rattle.sets.specs.declared.Set.{Set}
 use Rattle.walks.specs.Rules.{L, ruleOf, ruleIn}
 use Rattle.tables.specs.Answer.{movedOf}
-use Rattle.tables.specs.Moves.{other, perm-in, moved-is}
+use Rattle.movers.specs.Moves.{other, perm-in, moved-is}
 use Rattle.tables.specs.Passed.{its-perm, its-lengths, its-output}
-use Rattle.symbols.specs.Groups.{groups, joined, length-groups, joined-groups, getD-groups}
+use Rattle.movers.specs.Groups.{groups, joined, length-groups, joined-groups, getD-groups}
 use Rattle.symbols.specs.Wide.{Wide, wide-groups, wide-gather, length-joined, groups-joined}
-use Rattle.symbols.specs.Answer.{symbolsBy, movedSymbols}
+use Rattle.movers.specs.Grouped.{symbolsBy}
+use Rattle.symbols.specs.Answer.{movedSymbols}
 
 -- where a call is done
 module _ {A : Type 0} (way : Way) (s : Set) (w : ℕ) (src dst : List A) (e : movedOf s (s .n * w) (length src) (length dst) ≡ done tt) where

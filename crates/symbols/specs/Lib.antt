@@ -1,7 +1,5 @@
-pub mod Groups
 pub mod Wide
 pub mod Answer
-pub mod Moves
 pub mod Passed
 pub mod Laws
 pub mod One

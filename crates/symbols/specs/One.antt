@@ -13,10 +13,10 @@ use Rattle.laws.specs.Move.{gather}
 use Rattle.sets.specs.declared.Set.{Set}
 use Rattle.walks.specs.Rules.{ruleOf, ruleIn}
 use Rattle.tables.specs.Answer.{blockLines, movedOf}
-use Rattle.tables.specs.Moves.{perm-in, moved-is}
+use Rattle.movers.specs.Moves.{perm-in, moved-is}
 use Rattle.tables.specs.Passed.{its-perm, its-lengths}
 use Rattle.blocks.specs.Answer.{moved}
-use Rattle.symbols.specs.Groups.{groups, joined, length-groups, getD-groups}
+use Rattle.movers.specs.Groups.{groups, joined, length-groups, getD-groups}
 use Rattle.symbols.specs.Answer.{movedSymbols}
 
 module _ {A : Type 0} where

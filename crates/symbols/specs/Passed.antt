@@ -9,11 +9,12 @@ use Rattle.sets.specs.declared.Set.{Set}
 use Rattle.walks.specs.Rules.{L}
 use Rattle.tables.specs.declared.Moved.{Moved}
 use Rattle.tables.specs.declared.Moved.the-variants.{Done}
-use Rattle.tables.specs.Moves.{moved-same}
+use Rattle.movers.specs.Moves.{moved-same}
 use Rattle.tables.specs.Passed.{Filled, its-lengths, done-answer, done-output}
-use Rattle.symbols.specs.Groups.{groups, joined}
-use Rattle.symbols.specs.Answer.{symbolsBy, movedSymbols}
-use Rattle.symbols.specs.Moves.{Movable}
+use Rattle.movers.specs.Groups.{groups, joined}
+use Rattle.movers.specs.Grouped.{symbolsBy}
+use Rattle.symbols.specs.Answer.{movedSymbols}
+use Rattle.movers.specs.Grouped.{Movable}
 
 module _ {A : Type 0} {s : Set} (w : ℕ) {total : ℕ} {table : List ℕ} {r : Moved} (src dst : List A) (b : total ≡ s .n * w)
     (p : Filled s total (length src) (length dst) table r) (e : r ≡ Done) where

@@ -6,60 +6,12 @@ use tables::MIDDLE;
 use tables::Moved;
 use tables::SMALL;
 ghost use mathlib.Core.Path.{_≡_};
-ghost use Prim.Native.Nat.{_+_, _*_, _≤_};
-ghost use lib.ListN.{length, drop};
-ghost use lib.Seq.{paste};
+ghost use Prim.Native.Nat.{_*_};
+ghost use lib.ListN.{length};
 ghost use Rattle.laws.specs.declared.Way.the-variants.{Interleaver, Deinterleaver};
-ghost use Rattle.laws.specs.Loop.{by};
 ghost use Rattle.tables.specs.Answer.{movedOf, sayMoved};
 ghost use Rattle.tables.specs.Passed.{Roomy};
-ghost use Rattle.symbols.specs.Answer.{symbolsBy, movedSymbols};
-ghost use Rattle.symbols.specs.Moves.{Movable};
-
-// Copies one symbol.
-fn copy_symbol(width: usize, src: &[u8], from: usize, dst: &mut [u8], to: usize)
-    requires { ⌜ from + width ≤ length (now src) ⌝ }
-    requires { ⌜ to + width ≤ length (now dst) ⌝ }
-    ensures { λ _. ⌜ now (dst .exit) ≡ paste (now (dst .entry)) to (drop from (now (src .entry))) width ⌝ }
-{
-    let mut i = 0;
-    while i < width {
-        dst[to + i] = src[from + i];
-        i += 1;
-    }
-}
-
-// Symbol t of dst is symbol table[t] of src: one product for each symbol, none for a byte.
-fn gather_by(table: &[u16], n: usize, width: usize, src: &[u8], dst: &mut [u8])
-    requires { ⌜ Movable (now table) n width (now src) (now dst) ⌝ }
-    ensures { λ _. ⌜ now (dst .exit)
-        ≡ symbolsBy Interleaver (by (now (table .entry))) n width (now (src .entry)) (now (dst .entry)) ⌝ }
-{
-    let mut t = 0;
-    let mut to = 0;
-    while t < n {
-        let from = table[t] as usize * width;
-        copy_symbol(width, src, from, dst, to);
-        to += width;
-        t += 1;
-    }
-}
-
-// Symbol table[t] of dst is symbol t of src.
-fn scatter_by(table: &[u16], n: usize, width: usize, src: &[u8], dst: &mut [u8])
-    requires { ⌜ Movable (now table) n width (now src) (now dst) ⌝ }
-    ensures { λ _. ⌜ now (dst .exit)
-        ≡ symbolsBy Deinterleaver (by (now (table .entry))) n width (now (src .entry)) (now (dst .entry)) ⌝ }
-{
-    let mut t = 0;
-    let mut from = 0;
-    while t < n {
-        let place = table[t] as usize * width;
-        copy_symbol(width, src, from, dst, place);
-        from += width;
-        t += 1;
-    }
-}
+ghost use Rattle.symbols.specs.Answer.{movedSymbols};
 
 // How many bytes a block of symbols has.
 fn bytes_of(set: Set, width: u32) -> usize
@@ -79,8 +31,20 @@ fn move_by(way: Way, set: Set, width: u32, table: &mut [u16], src: &[u8], dst: &
         Moved::Refused(x) => Moved::Refused(x),
         Moved::Done => {
             match way {
-                Way::Interleaver => gather_by(table, set.n as usize, width as usize, src, dst),
-                Way::Deinterleaver => scatter_by(table, set.n as usize, width as usize, src, dst),
+                Way::Interleaver => movers::symbols::gather_by(
+                    table,
+                    set.n as usize,
+                    width as usize,
+                    src,
+                    dst,
+                ),
+                Way::Deinterleaver => movers::symbols::scatter_by(
+                    table,
+                    set.n as usize,
+                    width as usize,
+                    src,
+                    dst,
+                ),
             }
             Moved::Done
         }

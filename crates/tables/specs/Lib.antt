@@ -1,4 +1,3 @@
 pub mod Answer
-pub mod Moves
 pub mod Passed
 pub mod Refusals

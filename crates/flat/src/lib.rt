@@ -1,0 +1,131 @@
+// An answer taken apart for C: what is lent becomes a set or a record, and what is answered becomes a number, 0 where the call is done, and
+// out-parameters, which a refused call leaves as they are.
+use sets::Set;
+use sets::Verdict;
+use streams::Fed;
+use streams::Started;
+use streams::Stream;
+use tables::Moved;
+use walks::Found;
+use walks::Walk;
+use walks::Walked;
+ghost use mathlib.Core.Path.{_≡_};
+ghost use Prim.Native.Nat.{ℕ};
+ghost use Rattle.sets.specs.Verdict.{sayVerdict};
+ghost use Rattle.walks.specs.Answer.{sayWalked, sayFound, Values};
+ghost use Rattle.tables.specs.Answer.{sayMoved};
+ghost use Rattle.streams.specs.Answers.{sayStarted, sayFed};
+ghost use Rattle.flat.specs.Flat.{setOf, walkOf, streamOf, numberOf, streamNumberOf, outOf, phaseOut};
+
+// How many numbers a set is.
+pub const SET: usize = 3;
+
+// The set that is lent: profile, bits, n.
+pub fn set_of(set: &[u32; SET]) -> Set
+    ensures { λ r. ⌜ r ≡ setOf (now (set .entry)) ⌝ }
+{
+    Set {
+        profile: set[0],
+        bits: set[1],
+        n: set[2],
+    }
+}
+
+// The number of a verdict.
+pub fn tested(v: Verdict) -> u32
+    ensures { λ r. ⌜ r ≡ numberOf (sayVerdict v) ⌝ }
+{
+    match v {
+        Verdict::Accepted => 0,
+        Verdict::Refused(x) => x.number,
+    }
+}
+
+// Takes the answer for one address apart.
+pub fn found(f: Found, address: &mut u32) -> u32
+    ensures number { λ r. ⌜ r ≡ numberOf (sayFound f) ⌝ }
+    ensures address { λ r. ⌜ now (address .exit) ≡ outOf (sayFound f) (λ (a : ℕ). a) (now (address .entry)) ⌝ }
+{
+    match f {
+        Found::At(a) => {
+            *address = a;
+            0
+        }
+        Found::Refused(x) => x.number,
+    }
+}
+
+// A walk's record, as it is lent.
+pub fn walk_of(set: &[u32; SET], cell: u32) -> Walk
+    ensures { λ r. ⌜ r ≡ walkOf (now (set .entry)) cell ⌝ }
+{
+    let set = set_of(set);
+    Walk { set, cell }
+}
+
+// Takes the answer of a walk apart.
+pub fn walked(w: Walked, cell: &mut u32, written: &mut u32, cells: &mut u32) -> u32
+    ensures number { λ r. ⌜ r ≡ numberOf (sayWalked w) ⌝ }
+    ensures cell { λ r. ⌜ now (cell .exit) ≡ outOf (sayWalked w) (λ (v : Values). v .next .cell) (now (cell .entry)) ⌝ }
+    ensures written { λ r. ⌜ now (written .exit) ≡ outOf (sayWalked w) (λ (v : Values). v .written) (now (written .entry)) ⌝ }
+    ensures cells { λ r. ⌜ now (cells .exit) ≡ outOf (sayWalked w) (λ (v : Values). v .cells) (now (cells .entry)) ⌝ }
+{
+    match w {
+        Walked::Done {
+            written: k,
+            next,
+            cells: c,
+        } => {
+            *cell = next.cell;
+            *written = k;
+            *cells = c;
+            0
+        }
+        Walked::Refused(x) => x.number,
+    }
+}
+
+// The number of a block's answer.
+pub fn told(m: Moved) -> u32
+    ensures { λ r. ⌜ r ≡ numberOf (sayMoved m) ⌝ }
+{
+    match m {
+        Moved::Done => 0,
+        Moved::Refused(x) => x.number,
+    }
+}
+
+// A stream's record, as it is lent.
+pub fn record_of(phase: u32) -> Stream
+    ensures { λ r. ⌜ r ≡ streamOf phase ⌝ }
+{
+    Stream { phase }
+}
+
+// Takes the answer of a start apart.
+pub fn started(s: Started, phase: &mut u32) -> u32
+    ensures number { λ r. ⌜ r ≡ streamNumberOf (sayStarted s) ⌝ }
+    ensures phase { λ r. ⌜ now (phase .exit) ≡ phaseOut (sayStarted s) (now (phase .entry)) ⌝ }
+{
+    match s {
+        Started::Ready(first) => {
+            *phase = first.phase;
+            0
+        }
+        Started::Refused(k) => k,
+    }
+}
+
+// Takes the answer of a feed apart.
+pub fn fed(f: Fed, phase: &mut u32) -> u32
+    ensures number { λ r. ⌜ r ≡ streamNumberOf (sayFed f) ⌝ }
+    ensures phase { λ r. ⌜ now (phase .exit) ≡ phaseOut (sayFed f) (now (phase .entry)) ⌝ }
+{
+    match f {
+        Fed::Next(next) => {
+            *phase = next.phase;
+            0
+        }
+        Fed::Refused(k) => k,
+    }
+}
