@@ -15,69 +15,22 @@ Inv-loop table src dst₀ i₀ dst i = Gathered table nan src dst₀ dst i
 abbrev μ-loop : tie.MeasureT-loop
 μ-loop table src dst₀ i₀ dst i = length dst₀ - i
 
-loop-holds : tie.Need-loop-holds Inv-loop μ-loop
-loop-holds c = gather-first (c .args .table .now) nan (c .args .src .now) (c .args .dst .now)
-
-mul-a : tie.Need-mul-a Inv-loop μ-loop
-mul-a c = omega (arith, c .before .before .pre .room, c .before .before .pre .same, c .before .loop .inv .filled .long, c .loop-test .taken, c .before .before .good)
-
-shared-slice-read-a : tie.Need-shared-slice-read-a Inv-loop μ-loop
-shared-slice-read-a c = omega (arith, c .before .before .before .pre .room, c .before .before .before .pre .same, c .before .before .loop .inv .filled .long, c .before .loop-test .taken)
-
-cast-a : tie.Need-cast-a Inv-loop μ-loop
-cast-a c = omega (arith, c .shared-slice-known .given (c .before .before .loop .i))
-
-mul-dst : tie.Need-mul-dst Inv-loop μ-loop
-mul-dst c = omega (arith, c .shared-slice-known .given (c .before .before .loop .i))
-
-shared-slice-read-dst : tie.Need-shared-slice-read-dst Inv-loop μ-loop
-shared-slice-read-dst c =
-    let l = c .before .before .before .loop in
-    let p = c .before .before .before .before .pre in
-    p .within (l .i) (omega (arith, p .same, l .inv .filled .long, c .before .before .loop-test .taken))
-
-mul-dst-2 : tie.Need-mul-dst-2 Inv-loop μ-loop
-mul-dst-2 c = omega (arith, c .before .before .loop-test .taken, c .before .before .before .loop .inv .filled .long, c .before .before .before .before .good)
-
-slice-write-dst : tie.Need-slice-write-dst Inv-loop μ-loop
-slice-write-dst c = c .before .before .loop-test .taken
-
-add-i : tie.Need-add-i Inv-loop μ-loop
-add-i c = omega arith
-
-loop-less : tie.Need-loop-less Inv-loop μ-loop
-loop-less c = omega (arith, c .before .before .loop-test .taken, c .before .before .before .loop .inv .filled .long)
-
-loop-again : tie.Need-loop-again Inv-loop μ-loop
-loop-again c =
-    let a = c .before .before .before .before .args in
-    gather-more (a .table .now) nan (a .src .now) (a .dst .now) (c .before .before .before .loop .inv) (c .before .before .loop-test .taken)
-
-same-length : tie.Need-same-length Inv-loop μ-loop
-same-length c = c .before .loop .inv .filled .long
-
-returns : tie.Need-returns Inv-loop μ-loop
-returns c =
-    let a = c .before .before .args in
-    gather-all (a .table .now) nan (a .src .now) (a .dst .now) (c .before .loop .inv) (c .loop-test .left)
-    ∙ ap (λ (n : ℕ). gather (by (a .table .now)) n nan (a .src .now)) (c .before .before .pre .same)
-
 pub gather-by-spec : {M : Type 1} → statement M
 gather-by-spec =
     tie.close
     (tie.spec
     Inv-loop
     μ-loop
-    loop-holds
-    mul-a
-    shared-slice-read-a
-    cast-a
-    mul-dst
-    shared-slice-read-dst
-    mul-dst-2
-    slice-write-dst
-    add-i
-    loop-less
-    loop-again
-    same-length
-    returns)
+    (λ c. gather-first (c .args .table .now) nan (c .args .src .now) (c .args .dst .now))
+    (λ c. omega (arith, c .before .before .pre .room, c .before .before .pre .same, c .before .loop .inv .filled .long, c .loop-test .taken, c .before .before .good))
+    (λ c. omega (arith, c .before .before .before .pre .room, c .before .before .before .pre .same, c .before .before .loop .inv .filled .long, c .before .loop-test .taken))
+    (λ c. omega (arith, c .shared-slice-known .given (c .before .before .loop .i)))
+    (λ c. omega (arith, c .shared-slice-known .given (c .before .before .loop .i)))
+    (λ c. let l = c .before .before .before .loop in let p = c .before .before .before .before .pre in p .within (l .i) (omega (arith, p .same, l .inv .filled .long, c .before .before .loop-test .taken)))
+    (λ c. omega (arith, c .before .before .loop-test .taken, c .before .before .before .loop .inv .filled .long, c .before .before .before .before .good))
+    (λ c. c .before .before .loop-test .taken)
+    (λ c. omega arith)
+    (λ c. omega (arith, c .before .before .loop-test .taken, c .before .before .before .loop .inv .filled .long))
+    (λ c. let a = c .before .before .before .before .args in gather-more (a .table .now) nan (a .src .now) (a .dst .now) (c .before .before .before .loop .inv) (c .before .before .loop-test .taken))
+    (λ c. c .before .loop .inv .filled .long)
+    (λ c. let a = c .before .before .args in gather-all (a .table .now) nan (a .src .now) (a .dst .now) (c .before .loop .inv) (c .loop-test .left) ∙ ap (λ (n : ℕ). gather (by (a .table .now)) n nan (a .src .now)) (c .before .before .pre .same)))

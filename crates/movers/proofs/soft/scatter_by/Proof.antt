@@ -13,66 +13,22 @@ Inv-loop table src dst₀ i₀ dst i = Scattered table nan src dst₀ dst i
 abbrev μ-loop : tie.MeasureT-loop
 μ-loop table src dst₀ i₀ dst i = length src - i
 
-loop-holds : tie.Need-loop-holds Inv-loop μ-loop
-loop-holds c = scatter-first (c .args .table .now) nan (c .args .src .now) (c .args .dst .now)
-
-mul-a : tie.Need-mul-a Inv-loop μ-loop
-mul-a c = omega (arith, c .before .before .pre .room, c .loop-test .taken, c .before .before .good)
-
-shared-slice-read-a : tie.Need-shared-slice-read-a Inv-loop μ-loop
-shared-slice-read-a c = omega (arith, c .before .before .before .pre .room, c .before .loop-test .taken)
-
-cast-a : tie.Need-cast-a Inv-loop μ-loop
-cast-a c = omega (arith, c .shared-slice-known .given (c .before .before .loop .i))
-
-mul-dst : tie.Need-mul-dst Inv-loop μ-loop
-mul-dst c = omega (arith, c .before .loop-test .taken, c .before .before .before .good)
-
-shared-slice-read-dst : tie.Need-shared-slice-read-dst Inv-loop μ-loop
-shared-slice-read-dst c = c .before .before .loop-test .taken
-
-mul-dst-2 : tie.Need-mul-dst-2 Inv-loop μ-loop
-mul-dst-2 c = omega (arith, c .before .shared-slice-known .given (c .before .before .before .loop .i))
-
-slice-write-dst : tie.Need-slice-write-dst Inv-loop μ-loop
-slice-write-dst c =
-    let l = c .before .before .before .loop in
-    let p = c .before .before .before .before .pre in
-    omega (arith, p .same, l .inv .long, p .within (l .i) (c .before .before .loop-test .taken))
-
-add-i : tie.Need-add-i Inv-loop μ-loop
-add-i c = omega arith
-
-loop-less : tie.Need-loop-less Inv-loop μ-loop
-loop-less c = omega (arith, c .before .before .loop-test .taken)
-
-loop-again : tie.Need-loop-again Inv-loop μ-loop
-loop-again c =
-    let a = c .before .before .before .before .args in
-    scatter-more (a .table .now) nan (a .src .now) (a .dst .now) (c .before .before .before .loop .inv) (c .before .before .loop-test .taken)
-
-same-length : tie.Need-same-length Inv-loop μ-loop
-same-length c = c .before .loop .inv .long
-
-returns : tie.Need-returns Inv-loop μ-loop
-returns c = let a = c .before .before .args in scatter-all (a .table .now) nan (a .src .now) (a .dst .now) (c .before .loop .inv) (c .loop-test .left)
-
 pub scatter-by-spec : {M : Type 1} → statement M
 scatter-by-spec =
     tie.close
     (tie.spec
     Inv-loop
     μ-loop
-    loop-holds
-    mul-a
-    shared-slice-read-a
-    cast-a
-    mul-dst
-    shared-slice-read-dst
-    mul-dst-2
-    slice-write-dst
-    add-i
-    loop-less
-    loop-again
-    same-length
-    returns)
+    (λ c. scatter-first (c .args .table .now) nan (c .args .src .now) (c .args .dst .now))
+    (λ c. omega (arith, c .before .before .pre .room, c .loop-test .taken, c .before .before .good))
+    (λ c. omega (arith, c .before .before .before .pre .room, c .before .loop-test .taken))
+    (λ c. omega (arith, c .shared-slice-known .given (c .before .before .loop .i)))
+    (λ c. omega (arith, c .before .loop-test .taken, c .before .before .before .good))
+    (λ c. c .before .before .loop-test .taken)
+    (λ c. omega (arith, c .before .shared-slice-known .given (c .before .before .before .loop .i)))
+    (λ c. let l = c .before .before .before .loop in let p = c .before .before .before .before .pre in omega (arith, p .same, l .inv .long, p .within (l .i) (c .before .before .loop-test .taken)))
+    (λ c. omega arith)
+    (λ c. omega (arith, c .before .before .loop-test .taken))
+    (λ c. let a = c .before .before .before .before .args in scatter-more (a .table .now) nan (a .src .now) (a .dst .now) (c .before .before .before .loop .inv) (c .before .before .loop-test .taken))
+    (λ c. c .before .loop .inv .long)
+    (λ c. let a = c .before .before .args in scatter-all (a .table .now) nan (a .src .now) (a .dst .now) (c .before .loop .inv) (c .loop-test .left)))

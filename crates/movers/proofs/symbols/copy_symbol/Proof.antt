@@ -15,64 +15,19 @@ Inv-loop width src from dst₀ to i₀ dst i = (length dst ≡ length dst₀) ×
 abbrev μ-loop : tie.MeasureT-loop
 μ-loop width src from dst₀ to i₀ dst i = width - i
 
-loop-holds : tie.Need-loop-holds Inv-loop μ-loop
-loop-holds c = let a = c .args in (refl, omega arith, paste-zero (a .dst .now) (a .to) (drop (a .from) (a .src .now)))
-
-add-dst : tie.Need-add-dst Inv-loop μ-loop
-add-dst c = omega arith
-
-shared-slice-read-dst : tie.Need-shared-slice-read-dst Inv-loop μ-loop
-shared-slice-read-dst c = omega arith
-
-add-dst-2 : tie.Need-add-dst-2 Inv-loop μ-loop
-add-dst-2 c = omega arith
-
-slice-write-dst : tie.Need-slice-write-dst Inv-loop μ-loop
-slice-write-dst c = omega arith
-
-add-i : tie.Need-add-i Inv-loop μ-loop
-add-i c = omega arith
-
-loop-less : tie.Need-loop-less Inv-loop μ-loop
-loop-less c = omega arith
-
-loop-again : tie.Need-loop-again Inv-loop μ-loop
-loop-again c =
-    let l = c .before .before .loop in
-    let a = c .before .before .before .args in
-    let rest = drop (a .from) (a .src .now) in
-    let room : l .i < length rest = omega (arith, length-drop (a .from) (a .src .now)) in (
-      simp length-set (l .inv .0),
-      omega arith,
-      ap (λ (x : ℕ). set (l .dst) (a .to + l .i) x) (sym (getD-drop (a .from) (a .src .now) (l .i) 0))
-          ∙ ap (λ (d : List ℕ). set d (a .to + l .i) (getD rest (l .i) 0)) (l .inv .2)
-          ∙ paste-suc (a .dst .now) (a .to) rest (l .i) 0 (omega arith) room
-          ∙ ap (paste (a .dst .now) (a .to) rest) (sym (add-one (l .i))),
-    )
-
-same-length : tie.Need-same-length Inv-loop μ-loop
-same-length c = omega arith
-
-returns : tie.Need-returns Inv-loop μ-loop
-returns c =
-    let l = c .before .loop in
-    let a = c .before .before .args in
-    let all : l .i ≡ a .width = omega arith in
-    l .inv .2 ∙ ap (paste (a .dst .now) (a .to) (drop (a .from) (a .src .now))) all
-
 pub copy-symbol-spec : {M : Type 1} → statement M
 copy-symbol-spec =
     tie.close
     (tie.spec
     Inv-loop
     μ-loop
-    loop-holds
-    add-dst
-    shared-slice-read-dst
-    add-dst-2
-    slice-write-dst
-    add-i
-    loop-less
-    loop-again
-    same-length
-    returns)
+    (λ c. let a = c .args in (refl, omega arith, paste-zero (a .dst .now) (a .to) (drop (a .from) (a .src .now))))
+    (λ c. omega arith)
+    (λ c. omega arith)
+    (λ c. omega arith)
+    (λ c. omega arith)
+    (λ c. omega arith)
+    (λ c. omega arith)
+    (λ c. let l = c .before .before .loop in let a = c .before .before .before .args in let rest = drop (a .from) (a .src .now) in let room : l .i < length rest = omega (arith, length-drop (a .from) (a .src .now)) in (simp length-set (l .inv .0), omega arith, ap (λ (x : ℕ). set (l .dst) (a .to + l .i) x) (sym (getD-drop (a .from) (a .src .now) (l .i) 0)) ∙ ap (λ (d : List ℕ). set d (a .to + l .i) (getD rest (l .i) 0)) (l .inv .2) ∙ paste-suc (a .dst .now) (a .to) rest (l .i) 0 (omega arith) room ∙ ap (paste (a .dst .now) (a .to) rest) (sym (add-one (l .i)))))
+    (λ c. omega arith)
+    (λ c. let l = c .before .loop in let a = c .before .before .args in let all : l .i ≡ a .width = omega arith in l .inv .2 ∙ ap (paste (a .dst .now) (a .to) (drop (a .from) (a .src .now))) all))

@@ -12,71 +12,21 @@ Inv-loop table n width src dst₀ t₀ to₀ dst t to = GatheredSymbols table n 
 abbrev μ-loop : tie.MeasureT-loop
 μ-loop table n width src dst₀ t₀ to₀ dst t to = n - t
 
-loop-holds : tie.Need-loop-holds Inv-loop μ-loop
-loop-holds c = gather-begins (c .before .before .before .pre)
-
-mul-from : tie.Need-mul-from Inv-loop μ-loop
-mul-from c =
-    let b = c .before .before .before .before .before in
-    omega (arith, b .pre .room, c .loop-test .taken, b .good)
-
-shared-slice-read-from : tie.Need-shared-slice-read-from Inv-loop μ-loop
-shared-slice-read-from c = omega (arith, c .before .before .before .before .before .before .pre .room, c .before .loop-test .taken)
-
-cast-from : tie.Need-cast-from Inv-loop μ-loop
-cast-from c = omega (arith, c .shared-slice-known3 .given (c .before .before .loop .t))
-
-mul-from-2 : tie.Need-mul-from-2 Inv-loop μ-loop
-mul-from-2 c =
-    let b = c .before .before .before .before .before .before in
-    omega (arith, gather-inside (b .pre) (c .before .before .loop .inv) (c .before .loop-test .taken) .0, b .good)
-
-copy-symbol-requires : tie.Need-copy-symbol-requires Inv-loop μ-loop
-copy-symbol-requires c κs =
-    let l = c .before .before .before in
-    let m = l .before .before .before .before .pre in
-    let f = gather-inside m (l .loop .inv) (c .before .before .loop-test .taken) in
-    (omega (arith, f, m .src-long, l .loop .inv .turn .long), omega (arith, f, m .src-long, l .loop .inv .turn .long))
-
-add-to : tie.Need-add-to Inv-loop μ-loop
-add-to c =
-    let l = c .before .before .before .before .before .before in
-    let b = l .before .before .before .before in
-    omega (arith, gather-inside (b .pre) (l .loop .inv) (c .before .before .before .before .before .loop-test .taken) .1, b .good)
-
-add-t : tie.Need-add-t Inv-loop μ-loop
-add-t c = omega (arith, c .before .before .before .before .before .loop-test .taken)
-
-loop-less : tie.Need-loop-less Inv-loop μ-loop
-loop-less c = omega (arith, c .before .before .before .before .before .loop-test .taken)
-
-loop-again : tie.Need-loop-again Inv-loop μ-loop
-loop-again c =
-    let l = c .before .before .before .before .before .before in
-    gather-goes (l .before .before .before .before .pre) (l .loop .inv) (c .before .before .before .before .before .loop-test .taken)
-    (c .before .before .copy-symbol .ensures) refl
-
-same-length : tie.Need-same-length Inv-loop μ-loop
-same-length c = c .before .loop .inv .turn .long ∙ sym (c .before .before .before .before .before .pre .dst-long)
-
-returns : tie.Need-returns Inv-loop μ-loop
-returns c = gather-ends (c .before .before .before .before .before .pre) (c .before .loop .inv) (c .loop-test .left)
-
 pub gather-by-spec : {M : Type 1} → statement M
 gather-by-spec =
     tie.close
     (tie.spec
     Inv-loop
     μ-loop
-    loop-holds
-    mul-from
-    shared-slice-read-from
-    cast-from
-    mul-from-2
-    copy-symbol-requires
-    add-to
-    add-t
-    loop-less
-    loop-again
-    same-length
-    returns)
+    (λ c. gather-begins (c .before .before .before .pre))
+    (λ c. let b = c .before .before .before .before .before in omega (arith, b .pre .room, c .loop-test .taken, b .good))
+    (λ c. omega (arith, c .before .before .before .before .before .before .pre .room, c .before .loop-test .taken))
+    (λ c. omega (arith, c .shared-slice-known3 .given (c .before .before .loop .t)))
+    (λ c. let b = c .before .before .before .before .before .before in omega (arith, gather-inside (b .pre) (c .before .before .loop .inv) (c .before .loop-test .taken) .0, b .good))
+    (λ c κs. let l = c .before .before .before in let m = l .before .before .before .before .pre in let f = gather-inside m (l .loop .inv) (c .before .before .loop-test .taken) in (omega (arith, f, m .src-long, l .loop .inv .turn .long), omega (arith, f, m .src-long, l .loop .inv .turn .long)))
+    (λ c. let l = c .before .before .before .before .before .before in let b = l .before .before .before .before in omega (arith, gather-inside (b .pre) (l .loop .inv) (c .before .before .before .before .before .loop-test .taken) .1, b .good))
+    (λ c. omega (arith, c .before .before .before .before .before .loop-test .taken))
+    (λ c. omega (arith, c .before .before .before .before .before .loop-test .taken))
+    (λ c. let l = c .before .before .before .before .before .before in gather-goes (l .before .before .before .before .pre) (l .loop .inv) (c .before .before .before .before .before .loop-test .taken) (c .before .before .copy-symbol .ensures) refl)
+    (λ c. c .before .loop .inv .turn .long ∙ sym (c .before .before .before .before .before .pre .dst-long))
+    (λ c. gather-ends (c .before .before .before .before .before .pre) (c .before .loop .inv) (c .loop-test .left)))

@@ -12,71 +12,21 @@ Inv-loop table n width src dst₀ t₀ from₀ dst t from = ScatteredSymbols tab
 abbrev μ-loop : tie.MeasureT-loop
 μ-loop table n width src dst₀ t₀ from₀ dst t from = n - t
 
-loop-holds : tie.Need-loop-holds Inv-loop μ-loop
-loop-holds c = scatter-begins (c .before .before .before .pre)
-
-mul-place : tie.Need-mul-place Inv-loop μ-loop
-mul-place c =
-    let b = c .before .before .before .before .before in
-    omega (arith, b .pre .room, c .loop-test .taken, b .good)
-
-shared-slice-read-place : tie.Need-shared-slice-read-place Inv-loop μ-loop
-shared-slice-read-place c = omega (arith, c .before .before .before .before .before .before .pre .room, c .before .loop-test .taken)
-
-cast-place : tie.Need-cast-place Inv-loop μ-loop
-cast-place c = omega (arith, c .shared-slice-known3 .given (c .before .before .loop .t))
-
-mul-place-2 : tie.Need-mul-place-2 Inv-loop μ-loop
-mul-place-2 c =
-    let b = c .before .before .before .before .before .before in
-    omega (arith, scatter-inside (b .pre) (c .before .before .loop .inv) (c .before .loop-test .taken) .1, b .good)
-
-copy-symbol-requires : tie.Need-copy-symbol-requires Inv-loop μ-loop
-copy-symbol-requires c κs =
-    let l = c .before .before .before in
-    let m = l .before .before .before .before .pre in
-    let f = scatter-inside m (l .loop .inv) (c .before .before .loop-test .taken) in
-    (omega (arith, f, m .src-long, l .loop .inv .turn .long), omega (arith, f, m .src-long, l .loop .inv .turn .long))
-
-add-from : tie.Need-add-from Inv-loop μ-loop
-add-from c =
-    let l = c .before .before .before .before .before .before in
-    let b = l .before .before .before .before in
-    omega (arith, scatter-inside (b .pre) (l .loop .inv) (c .before .before .before .before .before .loop-test .taken) .0, b .good)
-
-add-t : tie.Need-add-t Inv-loop μ-loop
-add-t c = omega (arith, c .before .before .before .before .before .loop-test .taken)
-
-loop-less : tie.Need-loop-less Inv-loop μ-loop
-loop-less c = omega (arith, c .before .before .before .before .before .loop-test .taken)
-
-loop-again : tie.Need-loop-again Inv-loop μ-loop
-loop-again c =
-    let l = c .before .before .before .before .before .before in
-    scatter-goes (l .before .before .before .before .pre) (l .loop .inv) (c .before .before .before .before .before .loop-test .taken)
-    (c .before .before .copy-symbol .ensures) refl
-
-same-length : tie.Need-same-length Inv-loop μ-loop
-same-length c = c .before .loop .inv .turn .long ∙ sym (c .before .before .before .before .before .pre .dst-long)
-
-returns : tie.Need-returns Inv-loop μ-loop
-returns c = scatter-ends (c .before .before .before .before .before .pre) (c .before .loop .inv) (c .loop-test .left)
-
 pub scatter-by-spec : {M : Type 1} → statement M
 scatter-by-spec =
     tie.close
     (tie.spec
     Inv-loop
     μ-loop
-    loop-holds
-    mul-place
-    shared-slice-read-place
-    cast-place
-    mul-place-2
-    copy-symbol-requires
-    add-from
-    add-t
-    loop-less
-    loop-again
-    same-length
-    returns)
+    (λ c. scatter-begins (c .before .before .before .pre))
+    (λ c. let b = c .before .before .before .before .before in omega (arith, b .pre .room, c .loop-test .taken, b .good))
+    (λ c. omega (arith, c .before .before .before .before .before .before .pre .room, c .before .loop-test .taken))
+    (λ c. omega (arith, c .shared-slice-known3 .given (c .before .before .loop .t)))
+    (λ c. let b = c .before .before .before .before .before .before in omega (arith, scatter-inside (b .pre) (c .before .before .loop .inv) (c .before .loop-test .taken) .1, b .good))
+    (λ c κs. let l = c .before .before .before in let m = l .before .before .before .before .pre in let f = scatter-inside m (l .loop .inv) (c .before .before .loop-test .taken) in (omega (arith, f, m .src-long, l .loop .inv .turn .long), omega (arith, f, m .src-long, l .loop .inv .turn .long)))
+    (λ c. let l = c .before .before .before .before .before .before in let b = l .before .before .before .before in omega (arith, scatter-inside (b .pre) (l .loop .inv) (c .before .before .before .before .before .loop-test .taken) .0, b .good))
+    (λ c. omega (arith, c .before .before .before .before .before .loop-test .taken))
+    (λ c. omega (arith, c .before .before .before .before .before .loop-test .taken))
+    (λ c. let l = c .before .before .before .before .before .before in scatter-goes (l .before .before .before .before .pre) (l .loop .inv) (c .before .before .before .before .before .loop-test .taken) (c .before .before .copy-symbol .ensures) refl)
+    (λ c. c .before .loop .inv .turn .long ∙ sym (c .before .before .before .before .before .pre .dst-long))
+    (λ c. scatter-ends (c .before .before .before .before .before .pre) (c .before .loop .inv) (c .loop-test .left)))
