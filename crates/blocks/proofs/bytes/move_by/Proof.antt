@@ -7,8 +7,13 @@ use borrow.Author.Needs.{needs}
 use Rattle.blocks.proofs.bytes.move_by.Statement.{statement}
 use Rattle.blocks.proofs.bytes.move_by.Tie as tie
 
-pub move-by-spec : {M : Type 1} → statement M
+returns : tie.Need-returns
 unfolding moved
+returns c =
+    let p = c .before .before .before .before .before .fill .ensures in
+    (refused-answer p (c .before .m .given .1), refused-output p (c .before .m .given .1) _ _)
+
+pub move-by-spec : {M : Type 1} → statement M
 move-by-spec =
     tie.close
     (tie.spec
@@ -21,7 +26,7 @@ move-by-spec =
     (λ c. search needs)
     (λ c κs. fitting _ _ (c .before .before .before .before .before .before .before .before .fill .ensures) (c .before .before .before .before .enum-told .given .1))
     (λ c. search needs)
-    (λ c. let p = c .before .before .before .before .before .fill .ensures in (refused-answer p (c .before .m .given .1), refused-output p (c .before .m .given .1) _ _))
+    returns
     (λ c. search needs)
     (λ c. search needs)
     (λ c. let p = c .before .before .before .before .before .before .before .before .before .before .before .fill .ensures in let e = c .before .before .before .before .before .before .before .enum-told .given .1 in (done-answer p e, output-is _ _ p e _ Interleaver 0 (c .before .before .before .before .before .enum-told2 .given .1) (c .before .before .gather-by .ensures)))
