@@ -6,6 +6,9 @@ use borrow.Author.Needs.{needs}
 use Rattle.feeds.proofs.refused.Statement.{statement}
 use Rattle.feeds.proofs.refused.Tie as tie
 
+way-of-requires : tie.Need-way-of-requires
+way-of-requires c κs = search needs
+
 returns : tie.Need-returns
 returns c = search needs
 
@@ -82,6 +85,7 @@ pub refused-spec : {M : Type 1} → statement M
 refused-spec =
     tie.close
     (tie.spec
+    way-of-requires
     returns
     returns-2
     sub-short
