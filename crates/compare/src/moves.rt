@@ -8,8 +8,8 @@ use crate::num::short;
 use crate::num::sum;
 use crate::num::times;
 use crate::num::weigh;
-use tables::Moved;
 use sets::Set;
+use tables::Moved;
 use walks::Found;
 
 // Byte t of the input: never 0. The low and the high byte together tell t.
