@@ -20,6 +20,10 @@
 //! What each call does is proved: see the contracts in `crates/exports/src`. What is left to this file is that the pointers it hands over
 //! are those of live slices that do not overlap, which is what a `&` and a `&mut` are.
 
+mod refusal;
+
+pub use refusal::Refusal;
+
 mod raw {
     use super::Set;
     extern "C" {
@@ -48,42 +52,10 @@ mod raw {
     feeds!(interleaver_dvb_interleave, interleaver_dvb_deinterleave);
 }
 
-/// Why a call was refused, in the numbers of the calls for C.
-#[derive(Clone, Copy, Debug, PartialEq, Eq)]
-pub enum Refusal {
-    /// No such profile, or the walk for M of profile 5.
-    Profile = 1,
-    /// The bits aren't listed for the profile.
-    Bits,
-    /// N isn't listed for that profile and those bits.
-    Size,
-    /// A position is N or more.
-    Position,
-    /// A block's input isn't N long, N times the width for symbols.
-    Input,
-    /// A block's output isn't N long, N times the width for symbols, or a feed's isn't as long as its input.
-    Output,
-    /// A store isn't 1,122 bytes: never here, a [`Dvb`] has its own.
-    Store,
-    /// The search for q passes 89: proved never to happen.
-    Search,
-    /// A walk's cell is past the cell total.
-    Record,
-}
-
-impl std::fmt::Display for Refusal {
-    fn fmt(&self, f: &mut std::fmt::Formatter) -> std::fmt::Result {
-        write!(f, "refused, number {} ({self:?})", *self as u32)
-    }
-}
-
-impl std::error::Error for Refusal {}
-
 fn answer(number: u32) -> Result<(), Refusal> {
-    use Refusal::*;
     match number {
         0 => Ok(()),
-        k => Err([Profile, Bits, Size, Position, Input, Output, Store, Search, Record][k as usize - 1]),
+        refused => Err(Refusal::of(refused)),
     }
 }
 

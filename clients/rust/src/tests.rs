@@ -9,9 +9,21 @@ fn sets() -> impl Iterator<Item = Set> {
 #[test]
 fn a_set_is_tested() {
     for (number, (profile, bits, n)) in [(1, (0, 4, 192)), (1, (6, 1, 48)), (2, (2, 1, 96)), (3, (3, 4, 96)), (3, (5, 1, 39)), (3, (5, 1, 5115))] {
-        assert_eq!(Set::new(profile, bits, n).unwrap_err() as u32, number);
+        assert_eq!(Set::new(profile, bits, n).unwrap_err().number(), number);
     }
-    assert_eq!(Set::new(3, 3, 192).unwrap_err().to_string(), "refused, number 2 (Bits)");
+    assert_eq!(Set::new(3, 3, 192).unwrap_err().to_string(), "refused with 2: the bits aren't listed for the profile");
+}
+
+#[test]
+fn a_refusal_is_its_number() {
+    assert_eq!(answer(0), Ok(()));
+    for number in (1..1000).chain([u32::MAX]) {
+        let refusal = answer(number).unwrap_err();
+        assert_eq!((refusal.number(), refusal == Refusal::Other(number)), (number, number > 9));
+        assert!(refusal.to_string().starts_with(&format!("refused with {number}: ")));
+    }
+    assert_eq!([1, 5, 6, 9].map(|number| answer(number).unwrap_err()), [Refusal::Profile, Refusal::Input, Refusal::Output, Refusal::Record]);
+    assert_eq!(answer(10).unwrap_err().to_string(), "refused with 10: for a reason that has no name here");
 }
 
 #[test]

@@ -1,17 +1,11 @@
 // A feed of nothing into nothing, either way: done, and nothing moves.
+use laws::Way;
 use streams::Fed;
 use streams::Started;
 use streams::Stream;
 
-fn feed_either(back: bool, s: Stream, store: &mut [u8; 1122], input: &[u8], out: &mut [u8]) -> Fed {
-    if back {
-        return streams::deinterleave(s, store, input, out);
-    }
-    streams::interleave(s, store, input, out)
-}
-
 // The record that a start gives; out of its range where it is refused.
-fn begun(store: &mut [u8; 1122], f: u8) -> Stream {
+fn begun(store: &mut [u8], f: u8) -> Stream {
     let a = streams::start(store, f);
     match a {
         Started::Ready(s) => s,
@@ -27,8 +21,8 @@ fn record(a: Fed) -> Stream {
     }
 }
 
-fn tell_fed(back: bool, a: Fed, s: Stream, bytes: u64, changed: u64) {
-    super::words::either(back, b"interleaver", b"deinterleaver");
+fn tell_fed(way: Way, a: Fed, s: Stream, bytes: u64, changed: u64) {
+    super::words::either(way, b"interleaver", b"deinterleaver");
     super::words::text(b", feed of nothing into nothing");
     match a {
         Fed::Refused(k) => super::words::number(b": refused ", k as u64),
@@ -42,16 +36,16 @@ fn tell_fed(back: bool, a: Fed, s: Stream, bytes: u64, changed: u64) {
 }
 
 // A feed of nothing, after a start and a feed of the input.
-fn feed_nothing(back: bool, input: &[u8], out: &mut [u8]) {
+fn feed_nothing(way: Way, input: &[u8], out: &mut [u8]) {
     let nothing = [0u8; 0];
     let mut nowhere = [0u8; 0];
     let mut store = [0u8; 1122];
     let s = begun(&mut store, 165);
-    let t = record(feed_either(back, s, &mut store, input, out));
+    let t = record(s.feed(way, &mut store, input, out));
     let before = store;
-    let a = feed_either(back, t, &mut store, &nothing, &mut nowhere);
+    let a = t.feed(way, &mut store, &nothing, &mut nowhere);
     tell_fed(
-        back,
+        way,
         a,
         t,
         nothing.len() as u64,
@@ -59,11 +53,11 @@ fn feed_nothing(back: bool, input: &[u8], out: &mut [u8]) {
     );
 }
 
-pub fn feeds(back: bool) {
+pub fn feeds(way: Way) {
     let none = [7u8; 0];
     let some = [7u8; 14];
     let mut a = [0u8; 0];
     let mut b = [0u8; 14];
-    feed_nothing(back, &none, &mut a);
-    feed_nothing(back, &some, &mut b);
+    feed_nothing(way, &none, &mut a);
+    feed_nothing(way, &some, &mut b);
 }

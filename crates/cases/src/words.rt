@@ -1,4 +1,5 @@
 // What is printed: plain words and numbers.
+use laws::Way;
 use libc::STDOUT_FILENO;
 use sets::Refusal;
 use sets::Set;
@@ -18,12 +19,12 @@ pub fn last(words: &[u8], n: u64) {
     text(b"\n");
 }
 
-// What is called: one way, or back.
-pub fn either(back: bool, there: &[u8], again: &[u8]) {
-    if back {
-        return text(again);
+// What is called, by its way.
+pub fn either(way: Way, there: &[u8], again: &[u8]) {
+    match way {
+        Way::Interleaver => text(there),
+        Way::Deinterleaver => text(again),
     }
-    text(there);
 }
 
 // A parameter set, in the middle of a line.

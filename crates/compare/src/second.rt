@@ -6,6 +6,7 @@ use crate::num::put;
 use crate::num::rest;
 use crate::num::times;
 use crate::turbo;
+use laws::Way;
 use sets::Set;
 
 // A list stands at 0 of the lent slice, and from ENDS on, for each address, the cell that follows it.
@@ -48,22 +49,22 @@ fn carrier_m(d: usize, n: usize, s: usize, k: usize) -> usize {
     plus(times(s, over(m, s)), rest(minus(plus(m, n), turn), s))
 }
 
-fn carrier(set: Set, back: bool, t: usize) -> usize {
+fn carrier(way: Way, set: Set, t: usize) -> usize {
     let d = rows(set.profile);
     let s = group(set.bits);
     let n = set.n as usize;
-    if back {
-        return carrier_m(d, n, s, t);
+    match way {
+        Way::Interleaver => carrier_l(d, n, s, t),
+        Way::Deinterleaver => carrier_m(d, n, s, t),
     }
-    carrier_l(d, n, s, t)
 }
 
-// L, or M if back, of a carrier set.
-fn carrier_list(set: Set, back: bool, list: &mut [u16]) -> Whole {
+// L or M of a carrier set.
+fn carrier_list(way: Way, set: Set, list: &mut [u16]) -> Whole {
     let n = set.n as usize;
     let mut t = 0;
     while t < n {
-        put(list, t, carrier(set, back, t));
+        put(list, t, carrier(way, set, t));
         put(list, plus(ENDS, t), plus(t, 1));
         t += 1;
     }
@@ -110,9 +111,9 @@ fn turbo_list(set: Set, list: &mut [u16]) -> Whole {
 }
 
 // The whole list of an accepted set.
-pub fn list_of(set: Set, back: bool, list: &mut [u16]) -> Whole {
+pub fn list_of(way: Way, set: Set, list: &mut [u16]) -> Whole {
     if set.profile == 5 {
         return turbo_list(set, list);
     }
-    carrier_list(set, back, list)
+    carrier_list(way, set, list)
 }

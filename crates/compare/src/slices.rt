@@ -9,6 +9,7 @@ use crate::num::sum;
 use crate::num::weigh;
 use crate::second::ENDS;
 use crate::second::Whole;
+use laws::Way;
 use walks::Walk;
 use walks::Walked;
 
@@ -49,13 +50,6 @@ fn due_cell(w: Whole, list: &[u16], given: usize, room: usize) -> usize {
         return w.cells;
     }
     at(list, plus(ENDS, minus(all, 1)))
-}
-
-fn call(back: bool, walk: Walk, slice: &mut [u16]) -> Walked {
-    if back {
-        return walks::walk_m(walk, slice);
-    }
-    walks::walk_l(walk, slice)
 }
 
 // What one call answered: its addresses, how many, the cell it stopped at, the cells examined.
@@ -101,9 +95,9 @@ fn judge(
 }
 
 // The next slice; a refusal is a difference, and the end.
-fn step(w: Whole, back: bool, now: Going, list: &[u16], slice: &mut [u16]) -> Going {
+fn step(way: Way, w: Whole, now: Going, list: &[u16], slice: &mut [u16]) -> Going {
     let walk = now.walk;
-    let answer = call(back, walk, slice);
+    let answer = walks::walk_by(way, walk, slice);
     match answer {
         Walked::Refused(_) => {
             let count = now.count.with(Count::wrong(1));
@@ -161,11 +155,11 @@ fn end(w: Whole, now: Going) -> Count {
 }
 
 // Slices of the length of the one that is lent, until the walk is over.
-fn run(w: Whole, back: bool, list: &[u16], slice: &mut [u16]) -> Count {
+fn run(way: Way, w: Whole, list: &[u16], slice: &mut [u16]) -> Count {
     let mut now = begin(w);
     let mut turns: usize = 0;
     while turns < 6144 {
-        now = step(w, back, now, list, slice);
+        now = step(way, w, now, list, slice);
         if now.over {
             return end(w, now);
         }
@@ -175,9 +169,9 @@ fn run(w: Whole, back: bool, list: &[u16], slice: &mut [u16]) -> Count {
 }
 
 // The same with slices of a given size.
-pub fn compare(w: Whole, back: bool, size: usize, list: &[u16], slice: &mut [u16]) -> Count {
+pub fn compare(way: Way, w: Whole, size: usize, list: &[u16], slice: &mut [u16]) -> Count {
     if slice.len() < size {
         return Count::wrong(1);
     }
-    run(w, back, list, &mut slice[..size])
+    run(way, w, list, &mut slice[..size])
 }

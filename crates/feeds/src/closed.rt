@@ -1,4 +1,5 @@
 // What is fed, and what must come out, by the closed form: it divides, and knows neither record nor store.
+use laws::Way;
 ghost use Prim.Native.Nat.{_≤_};
 
 fn wide(b: u8) -> u64
@@ -22,13 +23,16 @@ pub fn samples(input: &mut [u8]) {
 }
 
 // How late byte t comes out of the interleaver, and out of the deinterleaver behind it.
-fn delay(back: bool, t: usize) -> usize {
-    if back { 2244 } else { 204 * (t % 12) }
+fn delay(way: Way, t: usize) -> usize {
+    match way {
+        Way::Interleaver => 204 * (t % 12),
+        Way::Deinterleaver => 2244,
+    }
 }
 
 // The byte that must come out at place t.
-fn due(input: &[u8], back: bool, t: usize, f: u8) -> u8 {
-    let late = delay(back, t);
+fn due(way: Way, input: &[u8], t: usize, f: u8) -> u8 {
+    let late = delay(way, t);
     if t < late {
         return f;
     }
@@ -39,11 +43,11 @@ fn due(input: &[u8], back: bool, t: usize, f: u8) -> u8 {
 }
 
 // How many bytes of out are not what they must be.
-pub fn differences(input: &[u8], out: &[u8], back: bool, f: u8) -> u64 {
+pub fn differences(way: Way, input: &[u8], out: &[u8], f: u8) -> u64 {
     let mut wrong: u64 = 0;
     let mut t = 0;
     while t < out.len() {
-        if out[t] != due(input, back, t, f) {
+        if out[t] != due(way, input, t, f) {
             wrong = std::num::wrapping_add_u64(wrong, 1);
         }
         t += 1;

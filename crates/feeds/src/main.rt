@@ -3,6 +3,7 @@
 // record at phase 5,654,868, a multiple of 12 just before the phase's end, with a filled store.
 mod closed;
 
+use laws::Way;
 use libc::STDOUT_FILENO;
 use streams::Fed;
 use streams::Started;
@@ -73,13 +74,6 @@ fn length_of(k: usize, left: usize) -> usize
     shorter(k % 29, left)
 }
 
-fn feed(back: bool, s: Stream, store: &mut [u8], input: &[u8], out: &mut [u8]) -> Fed {
-    if back {
-        return streams::deinterleave(s, store, input, out);
-    }
-    streams::interleave(s, store, input, out)
-}
-
 fn refusal(f: Fed) -> u32 {
     match f {
         Fed::Next(_) => 0,
@@ -94,9 +88,17 @@ fn record(f: Fed, s: Stream) -> Stream {
     }
 }
 
+// The way of the k-th call that is to be refused.
+fn way_of(k: usize) -> Way {
+    if k % 2 == 0 {
+        return Way::Deinterleaver;
+    }
+    Way::Interleaver
+}
+
 // The k-th call that is to be refused: by a store one byte short, a record out of its range, an input one byte short; of either way.
 fn refused(k: usize, s: Stream, store: &mut [u8], input: &[u8], out: &mut [u8]) -> u32 {
-    let back = k % 2 == 0;
+    let way = way_of(k);
     if store.len() == 0 {
         return 0;
     }
@@ -106,15 +108,15 @@ fn refused(k: usize, s: Stream, store: &mut [u8], input: &[u8], out: &mut [u8]) 
     let short = store.len() - 1;
     let less = input.len() - 1;
     if k % 3 == 0 {
-        return refusal(feed(back, s, &mut store[..short], input, out));
+        return refusal(s.feed(way, &mut store[..short], input, out));
     }
     if k % 3 == 1 {
         let past = Stream {
             phase: 5654880 + (k % 1000) as u32,
         };
-        return refusal(feed(back, past, store, input, out));
+        return refusal(past.feed(way, store, input, out));
     }
-    refusal(feed(back, s, store, &input[..less], out))
+    refusal(s.feed(way, store, &input[..less], out))
 }
 
 // A machine part way: its record, how many bytes it took, and its tally.
@@ -125,13 +127,13 @@ pub struct Going {
 }
 
 // The k-th call that is done.
-fn step(k: usize, back: bool, now: Going, store: &mut [u8], input: &[u8], out: &mut [u8]) -> Going {
+fn step(way: Way, k: usize, now: Going, store: &mut [u8], input: &[u8], out: &mut [u8]) -> Going {
     let s = now.s;
     let all = shorter(input.len(), out.len());
     let at = shorter(now.at, all);
     let n = length_of(k, all - at);
     let e = at + n;
-    let got = feed(back, s, store, &input[at..e], &mut out[at..e]);
+    let got = s.feed(way, store, &input[at..e], &mut out[at..e]);
     let tally = now.tally.add(refusal(got), n as u64);
     let next = record(got, s);
     Going {
@@ -142,28 +144,21 @@ fn step(k: usize, back: bool, now: Going, store: &mut [u8], input: &[u8], out: &
 }
 
 // The k-th call that is refused, and then the k-th that is done.
-fn turn(k: usize, back: bool, now: Going, store: &mut [u8], input: &[u8], out: &mut [u8]) -> Going {
+fn turn(way: Way, k: usize, now: Going, store: &mut [u8], input: &[u8], out: &mut [u8]) -> Going {
     let s = now.s;
     let at = now.at;
     let no = refused(k, s, store, input, out);
     let tally = now.tally.add(no, 0);
-    step(k, back, Going { s, at, tally }, store, input, out)
+    step(way, k, Going { s, at, tally }, store, input, out)
 }
 
 // Every byte of the input, from the record and the store, the first call that with the number from.
-fn run(
-    from: usize,
-    back: bool,
-    s: Stream,
-    store: &mut [u8],
-    input: &[u8],
-    out: &mut [u8],
-) -> Tally {
+fn run(way: Way, from: usize, s: Stream, store: &mut [u8], input: &[u8], out: &mut [u8]) -> Tally {
     let tally = Tally::none();
     let mut now = Going { s, at: 0, tally };
     let mut k = from % 100;
     while k < 300 {
-        now = turn(k, back, now, store, input, out);
+        now = turn(way, k, now, store, input, out);
         k += 1;
     }
     now.tally
@@ -185,12 +180,12 @@ fn number(text: &[u8], n: u64) {
     io::print_decimal(STDOUT_FILENO, n);
 }
 
-fn report(back: bool, t: Tally, checksum: u64, differences: u64) {
-    if back {
-        io::write_all(STDOUT_FILENO, b"deinterleaver");
-    } else {
-        io::write_all(STDOUT_FILENO, b"interleaver");
+fn report(way: Way, t: Tally, checksum: u64, differences: u64) {
+    match way {
+        Way::Interleaver => io::write_all(STDOUT_FILENO, b"interleaver"),
+        Way::Deinterleaver => io::write_all(STDOUT_FILENO, b"deinterleaver"),
     }
+    ;
     number(b" calls ", t.calls);
     number(b" refused 7 ", t.seven);
     number(b" 9 ", t.nine);
@@ -203,16 +198,19 @@ fn report(back: bool, t: Tally, checksum: u64, differences: u64) {
 }
 
 // One machine, in a store of its own, from the phase; what comes out is compared with what the first input makes due.
-fn machine(back: bool, phase: u32, f: u8, first: &[u8], input: &[u8], out: &mut [u8]) {
+fn machine(way: Way, phase: u32, f: u8, first: &[u8], input: &[u8], out: &mut [u8]) {
     let mut store = [0u8; 1122];
     let s = begin(&mut store, f, phase);
-    let from = if back { 23 } else { 0 };
-    let tally = run(from, back, s, &mut store, input, out);
+    let from = match way {
+        Way::Interleaver => 0,
+        Way::Deinterleaver => 23,
+    };
+    let tally = run(way, from, s, &mut store, input, out);
     report(
-        back,
+        way,
         tally,
         closed::checksum(out),
-        closed::differences(first, out, back, f),
+        closed::differences(way, first, out, f),
     );
 }
 
@@ -222,8 +220,8 @@ fn both(phase: u32, f: u8) {
     let mut sent = [0u8; 30000];
     let mut back = [0u8; 30000];
     closed::samples(&mut input);
-    machine(false, phase, f, &input, &input, &mut sent);
-    machine(true, phase, f, &input, &sent, &mut back);
+    machine(Way::Interleaver, phase, f, &input, &input, &mut sent);
+    machine(Way::Deinterleaver, phase, f, &input, &sent, &mut back);
 }
 
 fn main() {

@@ -2,18 +2,15 @@
 use super::read_some;
 use super::refused;
 use super::write_out;
+<<<<<<< HEAD
+=======
+use laws::Way;
+>>>>>>> 45c5aba83740148063f724c72f7938e04e2ced4e
 use sets::Set;
 use sets::Verdict;
 use tables::Moved;
 ghost use Prim.Native.Nat.{_≤_, _+_};
 ghost use lib.ListN.{length};
-
-fn moved(set: Set, width: u32, back: bool, src: &[u8], dst: &mut [u8]) -> Moved {
-    if back {
-        return symbols::deinterleave(set, width, src, dst);
-    }
-    symbols::interleave(set, width, src, dst)
-}
 
 // Reads until the block is full or the input ends, and answers how many bytes came.
 fn read_block(block: &mut [u8]) -> usize {
@@ -29,8 +26,8 @@ fn read_block(block: &mut [u8]) -> usize {
 }
 
 // Moves a block and writes it. Answers whether to go on.
-fn send(set: Set, width: u32, back: bool, src: &[u8], dst: &mut [u8]) -> bool {
-    match moved(set, width, back, src, dst) {
+fn send(way: Way, set: Set, width: u32, src: &[u8], dst: &mut [u8]) -> bool {
+    match symbols::move_symbols(way, set, width, src, dst) {
         Moved::Done => write_out(dst),
         Moved::Refused(x) => {
             refused(x.number);
@@ -40,23 +37,23 @@ fn send(set: Set, width: u32, back: bool, src: &[u8], dst: &mut [u8]) -> bool {
 }
 
 // Reads a block, and writes it moved. A short one is refused with 5 by the call that would move it, and nothing of it is written.
-fn turn(set: Set, width: u32, back: bool, src: &mut [u8], dst: &mut [u8]) -> bool {
+fn turn(way: Way, set: Set, width: u32, src: &mut [u8], dst: &mut [u8]) -> bool {
     let got = read_block(src);
     if got == 0 {
         return false;
     }
-    send(set, width, back, words::line::first(src, got), dst)
+    send(way, set, width, words::line::first(src, got), dst)
 }
 
-fn turns(set: Set, width: u32, back: bool, src: &mut [u8], dst: &mut [u8]) {
+fn turns(way: Way, set: Set, width: u32, src: &mut [u8], dst: &mut [u8]) {
     let mut left = u64::MAX;
-    while left > 0 && turn(set, width, back, src, dst) {
+    while left > 0 && turn(way, set, width, src, dst) {
         left -= 1;
     }
 }
 
 // The blocks in parts of the two rooms that have a block's length: at most 5,114 symbols of 8 bytes, for which there is room.
-fn in_parts(set: Set, width: u32, back: bool, src: &mut [u8], dst: &mut [u8]) {
+fn in_parts(way: Way, set: Set, width: u32, src: &mut [u8], dst: &mut [u8]) {
     let n = set.n as usize * width as usize;
     if n > src.len() {
         return;
@@ -64,17 +61,17 @@ fn in_parts(set: Set, width: u32, back: bool, src: &mut [u8], dst: &mut [u8]) {
     if n > dst.len() {
         return;
     }
-    turns(set, width, back, &mut src[..n], &mut dst[..n]);
+    turns(way, set, width, &mut src[..n], &mut dst[..n]);
 }
 
 // `interleave` and `deinterleave`, of symbols of 1 to 8 bytes.
-pub fn through(set: Set, width: u32, back: bool) {
+pub fn through(way: Way, set: Set, width: u32) {
     match sets::test(set) {
         Verdict::Refused(x) => refused(x.number),
         Verdict::Accepted => {
             let mut src = io::large_buffer();
             let mut dst = io::large_buffer();
-            in_parts(set, width, back, &mut src, &mut dst);
+            in_parts(way, set, width, &mut src, &mut dst);
         }
     }
 }

@@ -2,6 +2,7 @@
 use super::read_some;
 use super::refused;
 use super::write_out;
+use laws::Way;
 use streams::Fed;
 use streams::Started;
 use streams::Stream;
@@ -12,16 +13,9 @@ enum Going {
     Stop,
 }
 
-fn feed(s: Stream, back: bool, store: &mut [u8], input: &[u8], out: &mut [u8]) -> Fed {
-    if back {
-        return streams::deinterleave(s, store, input, out);
-    }
-    streams::interleave(s, store, input, out)
-}
-
 // Passes what came through the machine, and writes it.
-fn send(s: Stream, back: bool, store: &mut [u8], input: &[u8], out: &mut [u8]) -> Going {
-    match feed(s, back, store, input, out) {
+fn send(way: Way, s: Stream, store: &mut [u8], input: &[u8], out: &mut [u8]) -> Going {
+    match s.feed(way, store, input, out) {
         Fed::Next(next) => {
             if write_out(out) {
                 return Going::More(next);
@@ -36,7 +30,7 @@ fn send(s: Stream, back: bool, store: &mut [u8], input: &[u8], out: &mut [u8]) -
 }
 
 // Reads once, and passes on what came.
-fn turn(s: Stream, back: bool, store: &mut [u8], room: &mut [u8], out: &mut [u8]) -> Going {
+fn turn(way: Way, s: Stream, store: &mut [u8], room: &mut [u8], out: &mut [u8]) -> Going {
     let n = read_some(room);
     if n == 0 {
         return Going::Stop;
@@ -45,15 +39,15 @@ fn turn(s: Stream, back: bool, store: &mut [u8], room: &mut [u8], out: &mut [u8]
     if n > out.len() {
         return Going::Stop;
     }
-    send(s, back, store, &room[..n], &mut out[..n])
+    send(way, s, store, &room[..n], &mut out[..n])
 }
 
-fn turns(first: Stream, back: bool, store: &mut [u8], room: &mut [u8], out: &mut [u8]) {
+fn turns(way: Way, first: Stream, store: &mut [u8], room: &mut [u8], out: &mut [u8]) {
     let mut s = first;
     let mut left = u64::MAX;
     while left > 0 {
         left -= 1;
-        match turn(s, back, store, room, out) {
+        match turn(way, s, store, room, out) {
             Going::More(next) => {
                 s = next;
             }
@@ -65,12 +59,12 @@ fn turns(first: Stream, back: bool, store: &mut [u8], room: &mut [u8], out: &mut
 }
 
 // `dvb interleave`, and `dvb deinterleave`: the output is as long as the input.
-pub fn through(back: bool, fill: u8) {
+pub fn through(way: Way, fill: u8) {
     let mut store = [0u8; Stream::STORE];
     let mut room = io::large_buffer();
     let mut out = io::large_buffer();
     match streams::start(&mut store, fill) {
-        Started::Ready(s) => turns(s, back, &mut store, &mut room, &mut out),
+        Started::Ready(s) => turns(way, s, &mut store, &mut room, &mut out),
         Started::Refused(number) => refused(number),
     }
 }

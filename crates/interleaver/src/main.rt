@@ -4,6 +4,7 @@ mod asked; // asked.rt: the numbers of a command
 mod told; // told.rt: help, and what was expected
 
 use asked::SetAsked;
+use laws::Way;
 use told::Command;
 use words::line::Line;
 use words::line::ROOM;
@@ -17,17 +18,17 @@ fn answer(c: Command, line: &[u8]) {
     };
     match c {
         Command::Test => pages::lists::test(set),
-        Command::List => pages::lists::list(set),
-        Command::Back => pages::lists::back(set),
+        Command::List => pages::lists::list(Way::Interleaver, set),
+        Command::Back => pages::lists::list(Way::Deinterleaver, set),
         Command::Picture => pages::picture::picture(set),
         Command::At => {
             if let Number::Value(t) = asked::number(line, 4, b"T") {
-                pages::lists::at(set, t);
+                pages::lists::one(Way::Interleaver, set, t);
             }
         }
         Command::To => {
             if let Number::Value(k) = asked::number(line, 4, b"K") {
-                pages::lists::to(set, k);
+                pages::lists::one(Way::Deinterleaver, set, k);
             }
         }
         _ => walk(set, line),
@@ -45,12 +46,12 @@ fn walk(set: sets::Set, line: &[u8]) {
 }
 
 // Blocks of symbols, standard input to output.
-fn move_blocks(line: &[u8], back: bool) {
+fn move_blocks(way: Way, line: &[u8]) {
     let SetAsked::Given(set) = asked::set(line) else {
         return;
     };
     if word(line, 4).len() == 0 {
-        filters::blocked::through(set, 1, back);
+        filters::blocked::through(way, set, 1);
         return;
     }
     let Number::Value(width) = asked::small_number(line, 4, b"WIDTH", 8, b"8") else {
@@ -60,19 +61,19 @@ fn move_blocks(line: &[u8], back: bool) {
         told::expected(b"WIDTH from 1 to 8, the bytes of a symbol");
         return;
     }
-    filters::blocked::through(set, width, back);
+    filters::blocked::through(way, set, width);
 }
 
 // The DVB stream, standard input to output.
 fn move_stream(line: &[u8]) {
     match told::named(word(line, 1)) {
-        Command::Interleave => fill_stream(line, false),
-        Command::Deinterleave => fill_stream(line, true),
+        Command::Interleave => fill_stream(Way::Interleaver, line),
+        Command::Deinterleave => fill_stream(Way::Deinterleaver, line),
         _ => told::usage(Command::Dvb),
     }
 }
 
-fn fill_stream(line: &[u8], back: bool) {
+fn fill_stream(way: Way, line: &[u8]) {
     let Number::Value(fill) = asked::small_number(line, 2, b"FILL", 255, b"255") else {
         return;
     };
@@ -80,7 +81,7 @@ fn fill_stream(line: &[u8], back: bool) {
     if fill > 255 {
         return;
     }
-    filters::streamed::through(back, fill as u8);
+    filters::streamed::through(way, fill as u8);
 }
 
 // Answers a question that is in form.
@@ -139,8 +140,8 @@ fn obey(line: &[u8]) {
     }
     match c {
         Command::Lines => answer_lines(),
-        Command::Interleave => move_blocks(line, false),
-        Command::Deinterleave => move_blocks(line, true),
+        Command::Interleave => move_blocks(Way::Interleaver, line),
+        Command::Deinterleave => move_blocks(Way::Deinterleaver, line),
         Command::Dvb => move_stream(line),
         _ => ask(c, line),
     }

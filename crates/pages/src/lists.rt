@@ -3,6 +3,7 @@ use super::LONGEST;
 use super::say;
 use super::say_number;
 use super::wide;
+use laws::Way;
 use libc::STDOUT_FILENO;
 use sets::Refusal;
 use sets::Set;
@@ -51,17 +52,10 @@ pub fn test(set: Set) {
     }
 }
 
-// `list`: L, one address a line.
-pub fn list(set: Set) {
+// `list`, L, and `back`, M: one address a line.
+pub fn list(way: Way, set: Set) {
     let mut table = [0u16; LONGEST];
-    let w = walks::walk_l(Walk { set, cell: 0 }, &mut table);
-    walked(w, &table);
-}
-
-// `back`: M, one address a line.
-pub fn back(set: Set) {
-    let mut table = [0u16; LONGEST];
-    let w = walks::walk_m(Walk { set, cell: 0 }, &mut table);
+    let w = walks::walk_by(way, Walk { set, cell: 0 }, &mut table);
     walked(w, &table);
 }
 
@@ -72,14 +66,9 @@ fn found(f: Found) {
     }
 }
 
-// `at`: L(t).
-pub fn at(set: Set, t: u32) {
-    found(walks::address_l(set, t));
-}
-
-// `to`: M(k).
-pub fn to(set: Set, k: u32) {
-    found(walks::address_m(set, k));
+// `at`, L(x), and `to`, M(x).
+pub fn one(way: Way, set: Set, x: u32) {
+    found(walks::address_by(way, set, x));
 }
 
 fn least(a: usize, b: usize) -> usize

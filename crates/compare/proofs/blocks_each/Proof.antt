@@ -1,4 +1,4 @@
--- The lent slice keeps its length. Assumes nothing.
+-- The lent slice keeps its length.
 use Prim.Native.Nat.{_≤_, _-_}
 use mathlib.Core.Path.{_≡_}
 use lib.ListN.{length}

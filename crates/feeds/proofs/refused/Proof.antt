@@ -1,10 +1,13 @@
--- The shortened parts are in range. Assumes nothing.
+-- The shortened parts are in range.
 use mathlib.Core.Path.{sym}
 use native.Mathlib.Omega.{arith}
 use lib.Seq.{length-take-le}
 use borrow.Author.Needs.{needs}
 use Rattle.feeds.proofs.refused.Statement.{statement}
 use Rattle.feeds.proofs.refused.Tie as tie
+
+way-of-requires : tie.Need-way-of-requires
+way-of-requires c κs = search needs
 
 returns : tie.Need-returns
 returns c = search needs
@@ -82,6 +85,7 @@ pub refused-spec : {M : Type 1} → statement M
 refused-spec =
     tie.close
     (tie.spec
+    way-of-requires
     returns
     returns-2
     sub-short

@@ -1,4 +1,4 @@
--- The lent buffers keep their lengths. Assumes nothing.
+-- The lent buffers keep their lengths.
 use Prim.Native.Nat.{_-_}
 use mathlib.Core.Path.{_≡_}
 use lib.ListN.{length}
@@ -7,10 +7,10 @@ use Rattle.feeds.proofs.run.Statement.{statement}
 use Rattle.feeds.proofs.run.Tie as tie
 
 abbrev Inv-loop : tie.InvT-loop
-Inv-loop from back store₀ input out₀ now₀ k₀ store out now k = (length out ≡ length out₀) × (length store ≡ length store₀)
+Inv-loop way from store₀ input out₀ now₀ k₀ store out now k = (length out ≡ length out₀) × (length store ≡ length store₀)
 
 abbrev μ-loop : tie.MeasureT-loop
-μ-loop from back store₀ input out₀ now₀ k₀ store out now k = 300 - k
+μ-loop way from store₀ input out₀ now₀ k₀ store out now k = 300 - k
 
 none-requires : tie.Need-none-requires Inv-loop μ-loop
 none-requires c κs = search needs

@@ -1,4 +1,4 @@
--- Only a not-a-number differs from itself. Assumes nothing.
+-- Only a not-a-number differs from itself.
 use mathlib.Core.Path.{_≡_, subst}
 use mathlib.Core.Bool.{false, not}
 use lib.Dec.{T}

@@ -1,4 +1,4 @@
--- Every index is in range. Assumes nothing.
+-- Every index is in range.
 use Prim.Native.Nat.{_≤_, _-_}
 use borrow.Author.Needs.{needs}
 use Rattle.cases.proofs.looks.zeros.Statement.{statement}

@@ -1,4 +1,4 @@
--- The parts of the lent buffers are in range. Assumes nothing.
+-- The parts of the lent buffers are in range.
 use mathlib.Core.Path.{sym}
 use native.Mathlib.Omega.{arith}
 use lib.Seq.{length-take-le}

@@ -1,4 +1,4 @@
--- Twenty positions. Assumes nothing.
+-- Twenty positions.
 use Prim.Native.Nat.{_≤_, _-_}
 use borrow.Author.Needs.{needs}
 use Rattle.compare.proofs.moves.singles.Statement.{statement}

@@ -1,4 +1,4 @@
--- Both factors are below 65,536. Assumes nothing.
+-- Both factors are below 65,536.
 use Prim.Native.Nat.{_≤_, _*_, _%_}
 use native.Mathlib.Nat.{mul-le-mul}
 use native.Mathlib.Omega.{arith}

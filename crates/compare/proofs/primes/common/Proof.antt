@@ -1,4 +1,4 @@
--- The trial divisor falls. Assumes nothing.
+-- The trial divisor falls.
 use Prim.Native.Nat.{_≤_}
 use borrow.Author.Needs.{needs}
 use Rattle.compare.proofs.primes.common.Statement.{statement}

@@ -1,4 +1,4 @@
--- The exponent rises. Assumes nothing.
+-- The exponent rises.
 use Prim.Native.Nat.{_≤_, _-_}
 use borrow.Author.Needs.{needs}
 use Rattle.compare.proofs.primes.order.Statement.{statement}

@@ -1,4 +1,4 @@
--- The trial divisor rises. Assumes nothing.
+-- The trial divisor rises.
 use Prim.Native.Nat.{_≤_, _-_}
 use borrow.Author.Needs.{needs}
 use Rattle.compare.proofs.primes.prime.Statement.{statement}

@@ -1,4 +1,4 @@
--- The candidate rises. Assumes nothing.
+-- The candidate rises.
 use Prim.Native.Nat.{_≤_, _-_}
 use borrow.Author.Needs.{needs}
 use Rattle.compare.proofs.primes.root.Statement.{statement}

@@ -1,4 +1,4 @@
--- The lent tables keep their lengths. Assumes nothing.
+-- The lent tables keep their lengths.
 use Prim.Native.Nat.{_≤_, _-_}
 use mathlib.Core.Path.{_≡_}
 use lib.ListN.{length}
@@ -7,10 +7,10 @@ use Rattle.compare.proofs.second.carrier_list.Statement.{statement}
 use Rattle.compare.proofs.second.carrier_list.Tie as tie
 
 abbrev Inv-loop : tie.InvT-loop
-Inv-loop set back list₀ n t₀ list t = (t ≤ n) × (length list ≡ length list₀)
+Inv-loop way set list₀ n t₀ list t = (t ≤ n) × (length list ≡ length list₀)
 
 abbrev μ-loop : tie.MeasureT-loop
-μ-loop set back list₀ n t₀ list t = n - t
+μ-loop way set list₀ n t₀ list t = n - t
 
 cast-n : tie.Need-cast-n Inv-loop μ-loop
 cast-n c = search needs

@@ -1,4 +1,4 @@
--- The lent tables keep their lengths. Assumes nothing.
+-- The lent tables keep their lengths.
 use Prim.Native.Nat.{_≤_, _-_}
 use mathlib.Core.Path.{_≡_}
 use lib.ListN.{length}

@@ -1,4 +1,4 @@
--- The part of the lent slice is in range. Assumes nothing.
+-- The part of the lent slice is in range.
 use mathlib.Core.Path.{sym}
 use native.Mathlib.Omega.{arith}
 use lib.Seq.{length-take-le}

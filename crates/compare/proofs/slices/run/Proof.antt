@@ -1,4 +1,4 @@
--- The lent slice keeps its length. Assumes nothing.
+-- The lent slice keeps its length.
 use Prim.Native.Nat.{_≤_, _-_}
 use mathlib.Core.Path.{_≡_}
 use lib.ListN.{length}
@@ -7,10 +7,10 @@ use Rattle.compare.proofs.slices.run.Statement.{statement}
 use Rattle.compare.proofs.slices.run.Tie as tie
 
 abbrev Inv-loop : tie.InvT-loop
-Inv-loop w back list slice₀ now₀ turns₀ slice now turns = (turns ≤ 6144) × (length slice ≡ length slice₀)
+Inv-loop way w list slice₀ now₀ turns₀ slice now turns = (turns ≤ 6144) × (length slice ≡ length slice₀)
 
 abbrev μ-loop : tie.MeasureT-loop
-μ-loop w back list slice₀ now₀ turns₀ slice now turns = 6144 - turns
+μ-loop way w list slice₀ now₀ turns₀ slice now turns = 6144 - turns
 
 begin-requires : tie.Need-begin-requires Inv-loop μ-loop
 begin-requires c κs = search needs

@@ -1,4 +1,4 @@
--- The lent table keeps its length. Assumes nothing.
+-- The lent table keeps its length.
 use Prim.Native.Nat.{_≤_, _-_}
 use mathlib.Core.Path.{_≡_}
 use lib.ListN.{length}

@@ -1,4 +1,4 @@
--- The sum stays below its modulus. Assumes nothing.
+-- The sum stays below its modulus.
 use Prim.Native.Nat.{_≤_, _-_, _<_}
 use lib.ListN.{length}
 use borrow.Author.Needs.{needs}

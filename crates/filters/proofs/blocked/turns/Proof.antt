@@ -8,10 +8,10 @@ use Rattle.filters.proofs.blocked.turns.Lts as lts
 use Rattle.filters.proofs.blocked.turn.Reads as turn-reads
 
 abbrev Inv-loop : tie.InvT-loop
-Inv-loop set width back src₀ dst₀ left₀ src dst left = (length src ≡ length src₀) × (length dst ≡ length dst₀)
+Inv-loop way set width src₀ dst₀ left₀ src dst left = (length src ≡ length src₀) × (length dst ≡ length dst₀)
 
 abbrev μ-loop : tie.MeasureT-loop
-μ-loop set width back src₀ dst₀ left₀ src dst left = left
+μ-loop way set width src₀ dst₀ left₀ src dst left = left
 
 loop-holds : tie.Need-loop-holds Inv-loop μ-loop
 loop-holds c = search needs

@@ -8,10 +8,10 @@ use Rattle.filters.proofs.streamed.turns.Lts as lts
 use Rattle.filters.proofs.streamed.turn.Reads as turn-reads
 
 abbrev Inv-loop : tie.InvT-loop
-Inv-loop back store₀ room₀ out₀ s₀ left₀ store room out s left = (length store ≡ length store₀) × (length room ≡ length room₀) × (length out ≡ length out₀)
+Inv-loop way store₀ room₀ out₀ s₀ left₀ store room out s left = (length store ≡ length store₀) × (length room ≡ length room₀) × (length out ≡ length out₀)
 
 abbrev μ-loop : tie.MeasureT-loop
-μ-loop back store₀ room₀ out₀ s₀ left₀ store room out s left = left
+μ-loop way store₀ room₀ out₀ s₀ left₀ store room out s left = left
 
 loop-holds : tie.Need-loop-holds Inv-loop μ-loop
 loop-holds c = search needs

@@ -1,0 +1,58 @@
+//! Why a call was refused.
+
+// A line for each refusal: the number that the calls for C give, a name, and the sentence that the documentation and an error say alike.
+macro_rules! refusals {
+    ($($number:literal $name:ident $sentence:literal)*) => {
+        /// Why a call was refused, with the numbers of the calls for C.
+        #[derive(Clone, Copy, Debug, PartialEq, Eq)]
+        pub enum Refusal {
+            $(#[doc = concat!(stringify!($number), ": ", $sentence, ".")] $name,)*
+            /// A number that has no name here: of an archive that refuses for more reasons than this crate knows.
+            Other(u32),
+        }
+
+        impl Refusal {
+            pub(crate) fn of(number: u32) -> Refusal {
+                match number {
+                    $($number => Refusal::$name,)*
+                    other => Refusal::Other(other),
+                }
+            }
+
+            /// The number that the calls for C give.
+            pub fn number(self) -> u32 {
+                match self {
+                    $(Refusal::$name => $number,)*
+                    Refusal::Other(number) => number,
+                }
+            }
+
+            fn sentence(self) -> &'static str {
+                match self {
+                    $(Refusal::$name => $sentence,)*
+                    Refusal::Other(_) => "for a reason that has no name here",
+                }
+            }
+        }
+    };
+}
+
+refusals! {
+    1 Profile "no such profile, or the walk for M of profile 5"
+    2 Bits "the bits aren't listed for the profile"
+    3 Size "N isn't listed for that profile and those bits"
+    4 Position "a position is N or more"
+    5 Input "a block's input isn't N long, N times the width for symbols"
+    6 Output "a block's output isn't N long, N times the width for symbols, or a feed's isn't as long as its input"
+    7 Store "a store isn't 1,122 bytes; never here, since a `Dvb` has its own"
+    8 Search "the search for q passes 89; proved never to happen"
+    9 Record "a walk's cell is past the cell total"
+}
+
+impl std::fmt::Display for Refusal {
+    fn fmt(&self, f: &mut std::fmt::Formatter) -> std::fmt::Result {
+        write!(f, "refused with {}: {}", self.number(), self.sentence())
+    }
+}
+
+impl std::error::Error for Refusal {}

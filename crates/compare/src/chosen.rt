@@ -1,0 +1,71 @@
+// The sets that are compared.
+use sets::Set;
+use sets::Verdict;
+
+// The i-th of all profiles 1 to 4, bits 1 to 6, sizes 1 to 1,536: 36,864, most of them refused.
+fn carrier_at(i: u32) -> Set {
+    Set {
+        profile: i / 9216 % 4 + 1,
+        bits: i / 1536 % 6 + 1,
+        n: i % 1536 + 1,
+    }
+}
+
+pub fn turbo_set(k: u32) -> Set {
+    Set {
+        profile: 5,
+        bits: 1,
+        n: k,
+    }
+}
+
+fn carrier_set(profile: u32, bits: u32, n: u32) -> Set {
+    Set { profile, bits, n }
+}
+
+// Twelve sets: each R and C, both orders of twenty, and each s.
+pub fn dozen_at(i: u32) -> Set {
+    match i {
+        0 => turbo_set(40),
+        1 => turbo_set(41),
+        2 => turbo_set(160),
+        3 => turbo_set(201),
+        4 => turbo_set(481),
+        5 => turbo_set(2281),
+        6 => turbo_set(5114),
+        7 => carrier_set(1, 1, 12),
+        8 => carrier_set(3, 4, 192),
+        9 => carrier_set(3, 6, 288),
+        10 => carrier_set(1, 6, 1152),
+        _ => carrier_set(4, 2, 1536),
+    }
+}
+
+// A choice of sets: 0 profiles 1 to 4, 1 profile 5, 2 the dozen.
+pub fn set_at(choice: u32, i: u32) -> Set {
+    if choice == 0 {
+        return carrier_at(i);
+    }
+    if choice == 1 {
+        return turbo_set(i % 5075 + 40);
+    }
+    dozen_at(i)
+}
+
+pub fn sets_in(choice: u32) -> u32 {
+    if choice == 0 {
+        return 36864;
+    }
+    if choice == 1 {
+        return 5075;
+    }
+    12
+}
+
+pub fn accepted(set: Set) -> bool {
+    let v = sets::test(set);
+    match v {
+        Verdict::Accepted => true,
+        Verdict::Refused(_) => false,
+    }
+}
