@@ -3,10 +3,7 @@ mod looks;
 mod nothing;
 mod words;
 
-<<<<<<< HEAD
-=======
 use laws::Way;
->>>>>>> 45c5aba83740148063f724c72f7938e04e2ced4e
 use looks::MARK;
 use sets::Set;
 use sets::Verdict;

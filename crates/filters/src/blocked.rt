@@ -2,10 +2,7 @@
 use super::read_some;
 use super::refused;
 use super::write_out;
-<<<<<<< HEAD
-=======
 use laws::Way;
->>>>>>> 45c5aba83740148063f724c72f7938e04e2ced4e
 use sets::Set;
 use sets::Verdict;
 use tables::Moved;
