@@ -1,24 +1,22 @@
 -- What each family's leaf requires of an accepted set, and that the rule it serves is the set's.
 use Prim.Native.Nat.{ℕ}
-use mathlib.Core.Bool.{true, false, true≢false}
 use mathlib.Core.List.{List}
-use mathlib.Core.Path.{_≡_, refl, sym, ap, ap₂, _∙_, subst}
+use mathlib.Core.Path.{_≡_, sym, ap₂, _∙_, subst}
 use native.Mathlib.Omega.{arith}
 use Rattle.laws.specs.declared.Way.{Way}
-use Rattle.laws.specs.declared.Way.the-variants.{Interleaver, Deinterleaver}
 use Rattle.laws.specs.declared.Leaf.{Leaf}
 use Rattle.laws.specs.declared.Single.{Single}
 use Rattle.laws.specs.Walk.{Rule, inWay, LeafOf, SingleOf}
 use Rattle.sets.specs.declared.Set.{Set}
 use Rattle.sets.specs.declared.Family.{Family}
 use Rattle.sets.specs.declared.Family.the-variants.{Carrier, Turbo}
-use Rattle.sets.specs.Profiles.{familyOf, rowsOf, groupOf}
+use Rattle.sets.specs.Profiles.{rowsOf, groupOf}
 use Rattle.sets.specs.Carried.{carried, turbo-size}
 use Rattle.carrier.specs.Formula.{carrierRule}
 use Rattle.carrier.specs.Block.{Whole}
 use Rattle.wcdma_setup.specs.Rectangle.{Size}
 use Rattle.wcdma.specs.Turbo.{turboRule}
-use Rattle.walks.specs.Rules.{ruleOf, ruleIn, oneWay, barred, rule-is}
+use Rattle.walks.specs.Rules.{ruleOf, ruleIn, barred, rule-is}
 use Rattle.walks.specs.Passed.{Taken}
 
 module _ {s : Set} (t : Taken s Carrier) {d g : ℕ} (p : d ≡ rowsOf s) (q : g ≡ groupOf s) where
@@ -47,7 +45,6 @@ module _ (s : Set) {q : Rule} (e : q ≡ ruleOf s) (asked : Way) {way : Way} (p 
       subst (λ (v : Way). SingleOf (s .n) (ruleOf s) (ruleIn v s .l) x one) (sym p)
       (subst (λ (r : Rule). SingleOf (s .n) r (inWay asked (s .n) r .l) x one) e o)
 
--- a family whose M is not walked is asked for L
-pub asked-for-l : (way : Way) {f g : Family} → f ≡ g → oneWay g ≡ true → barred way f ≡ false → way ≡ Interleaver
-asked-for-l Interleaver q o b = refl
-asked-for-l Deinterleaver q o b = absurd (true≢false (sym o ∙ sym (ap oneWay q) ∙ b))
+-- whether a walk is had, by the family and the way that was asked for
+pub barred-is : {way asked : Way} {f g : Family} → way ≡ asked → f ≡ g → barred way f ≡ barred asked g
+barred-is p q = ap₂ barred p q

@@ -1,22 +1,25 @@
 -- Behind the test of a set: a refused set is refused by every call, and of an accepted one what its leaf says is the answer.
 use Prim.Native.Nat.{ℕ, _+_}
-use mathlib.Core.Bool.{true, false}
-use mathlib.Core.List.{List, _++_}
-use mathlib.Core.Path.{_≡_, sym, ap, _∙_}
+use mathlib.Core.Bool.{Bool, true, false, cond}
+use mathlib.Core.List.{List, _∷_, _++_}
+use mathlib.Core.Path.{_≡_, refl, sym, ap, _∙_}
+use native.Mathlib.Omega.{arith}
 use lib.ListN.{length}
 use Rattle.laws.specs.declared.Way.{Way}
-use Rattle.laws.specs.Outcome.{Outcome, done, refused, Line, first, Ruling, settle, judged, after, done-front, refused-front, kept-front}
+use Rattle.laws.specs.Outcome.{Outcome, done, refused, Line, line, first, Ruling, settle, judged, after, done-front, refused-front, kept-front}
 use Rattle.laws.specs.declared.Leaf.{Leaf}
+use Rattle.laws.specs.declared.Leaf.the-variants.{Went, Stopped}
 use Rattle.laws.specs.declared.Single.{Single}
 use Rattle.laws.specs.Walk.{Counts, walkCounts, leafLines, singleLines, sayLeaf, saySingle, LeafOf, SingleOf}
-use Rattle.laws.specs.Leaves.{carry, carry-judged}
+use Rattle.laws.specs.Walk as along
+use Rattle.laws.specs.Leaves.{Fits, leaf-fits, carry, carry-judged}
 use Rattle.sets.specs.declared.Set.{Set}
 use Rattle.sets.specs.declared.Family.{Family}
 use Rattle.sets.specs.declared.Refusal.{Refusal}
 use Rattle.sets.specs.Profiles.{familyOf}
 use Rattle.sets.specs.Verdict.{setLines, refusal, verdictOf}
 use Rattle.walks.specs.declared.Walk.{Walk}
-use Rattle.walks.specs.Rules.{ruleOf, ruleIn, barred}
+use Rattle.walks.specs.Rules.{ruleOf, ruleIn, barred, lawful-way}
 use Rattle.walks.specs.Answer.{walkLines, oneLines, Values, values, walkNext, walkSlice, walkValues, walkedOf, sliceOf, foundOf}
 
 -- the test of a set accepts it
@@ -38,50 +41,74 @@ pub accepted-front : (s : Set) (more : List Line) → Accepted s → first (setL
 unfolding verdictOf
 accepted-front s more e = done-front (refusal s) tt tt (setLines s) more e
 
--- a walk that is not had: 1
-module _ (way : Way) (w : Walk) (b : barred way (familyOf (w .set)) ≡ true) where
-  pub barred-answer : {x : Refusal} (room : ℕ) → x ≡ refusal (w .set) 1 → refused x ≡ walkedOf way w room
-  unfolding walkedOf walkLines
-  barred-answer room q = rw b (ap refused q)
+-- what the leaf of a walk promises of an accepted set: 1 where the walk is not had, else what its rule's leaf does
+abbrev pub wayLines : Way → Set → ℕ → List Line
+wayLines way s cell = line 1 (barred way (familyOf s)) ∷ leafLines (ruleIn way s) cell
 
-  pub barred-slice : (old : List ℕ) → old ≡ sliceOf way w old
-  unfolding sliceOf walkLines
-  barred-slice old = rw b
+pub record WalkLeaf (way : Way) (s : Set) (cell : ℕ) (old new : List ℕ) (leaf : Leaf) : Type 0 where
+  pub answer : sayLeaf leaf ≡ judged (λ k. k) (wayLines way s cell) (walkCounts (s .n) (ruleIn way s) cell (length old))
+  pub slice : new ≡ after (wayLines way s cell) (along.walkSlice (s .n) (ruleIn way s) cell old) old
 
-module _ (way : Way) (w : Walk) (o : barred way (familyOf (w .set)) ≡ false) where
-  -- a set that is refused is refused by its walk, and no slice changes
-  module _ {x : Refusal} (e : verdictOf (w .set) ≡ refused x) where
-    pub refused-answer : (room : ℕ) → refused x ≡ walkedOf way w room
-    unfolding walkedOf walkLines verdictOf
-    refused-answer room = rw o (sym (refused-front (refusal (w .set)) tt (setLines (w .set)) _ e _))
+module _ (way : Way) (s : Set) {cell : ℕ} {old new : List ℕ} {leaf : Leaf} (o : barred way (familyOf s) ≡ false) where
+  pub had-leaf : LeafOf (s .n) (ruleIn way s) cell old new leaf → WalkLeaf way s cell old new leaf
+  had-leaf l = record { answer = rw o (l .answer); slice = rw o (l .slice) }
 
-    pub refused-slice : (old : List ℕ) → old ≡ sliceOf way w old
-    unfolding sliceOf walkLines verdictOf
-    refused-slice old = rw o (sym (kept-front (refusal (w .set)) tt (setLines (w .set)) _ e _ old))
+  pub leaf-had : WalkLeaf way s cell old new leaf → LeafOf (s .n) (ruleIn way s) cell old new leaf
+  leaf-had l = record { answer = rw o at (l .answer); slice = rw o at (l .slice) }
 
-  -- of an accepted one only the leaf's lines are left to test
-  only-leaf : Accepted (w .set) → first (walkLines way w) ≡ first (leafLines (ruleIn way (w .set)) (w .cell))
-  unfolding walkLines
-  only-leaf e = rw o (accepted-front (w .set) _ e)
+pub barred-leaf : (way : Way) (s : Set) {cell : ℕ} {old : List ℕ} → barred way (familyOf s) ≡ true → WalkLeaf way s cell old old (Stopped 1)
+barred-leaf way s b = record { answer = rw b; slice = rw b }
+
+-- its numbers fit
+pub walk-leaf-fits : (way : Way) (s : Set) {cell : ℕ} {old new : List ℕ} (leaf : Leaf) → Accepted s → WalkLeaf way s cell old new leaf → Fits cell leaf
+walk-leaf-fits way s (Stopped k) e l = tt
+walk-leaf-fits way s {cell} {old} (Went a c) e l = go (barred way (familyOf s)) refl
+  where
+    go : (b : Bool) → barred way (familyOf s) ≡ b → Fits cell (Went a c)
+    go false o = leaf-fits (lawful-way way s e) (Went a c) (leaf-had way s o l)
+    go true o = let q = rw o at (l .answer) in let z : _≡_ {A = ℕ} 0 1 = cc in absurd (omega arith)
+
+-- a set that is refused is refused by its walk, with 1 where that is not had, and no slice changes
+module _ (way : Way) (w : Walk) {x : Refusal} (e : verdictOf (w .set) ≡ refused x) where
+  pub refused-answer : {y : Refusal} (room : ℕ) → y ≡ cond (barred way (familyOf (w .set))) (refusal (w .set) 1) x → refused y ≡ walkedOf way w room
+  unfolding walkedOf walkLines verdictOf
+  refused-answer {y} room q = go (barred way (familyOf (w .set))) refl q
+    where
+      go : (b : Bool) → barred way (familyOf (w .set)) ≡ b → y ≡ cond b (refusal (w .set) 1) x
+          → refused y ≡ judged (refusal (w .set)) (line 1 b ∷ (setLines (w .set) ++ leafLines (ruleIn way (w .set)) (w .cell))) (walkValues way w room)
+      go true o q = ap refused q
+      go false o q = ap refused q ∙ sym (refused-front (refusal (w .set)) tt (setLines (w .set)) _ e _)
+
+  pub refused-slice : (old : List ℕ) → old ≡ sliceOf way w old
+  unfolding sliceOf walkLines verdictOf
+  refused-slice old = go (barred way (familyOf (w .set)))
+    where
+      go : (b : Bool) → old ≡ after (line 1 b ∷ (setLines (w .set) ++ leafLines (ruleIn way (w .set)) (w .cell))) (walkSlice way w old) old
+      go true = refl
+      go false = sym (kept-front (refusal (w .set)) tt (setLines (w .set)) _ e _ old)
+
+-- of an accepted one only the leaf's lines are left to test
+only-leaf : (way : Way) (w : Walk) → Accepted (w .set) → first (walkLines way w) ≡ first (wayLines way (w .set) (w .cell))
+unfolding walkLines
+only-leaf way w e = rw (accepted-front (w .set) (leafLines (ruleIn way (w .set)) (w .cell)) e)
 
 -- the values of a walk, from what its leaf counts
 abbrev pub onward : Walk → Counts → Values
 onward w c = values (c .written) (record { set = w .set; cell = w .cell + c .cells }) (c .cells)
 
 -- then the answer and the slice are the leaf's, carried on
-module _ {way : Way} {w : Walk} (h : Walkable way (w .set)) {old new : List ℕ} {leaf : Leaf}
-    (o : LeafOf (w .set .n) (ruleIn way (w .set)) (w .cell) old new leaf) where
+module _ (way : Way) (w : Walk) (e : Accepted (w .set)) {old new : List ℕ} {leaf : Leaf} (o : WalkLeaf way (w .set) (w .cell) old new leaf) where
   pub leaf-answer : {r : Outcome Refusal Values} → r ≡ carry (refusal (w .set)) (onward w) (sayLeaf leaf) → r ≡ walkedOf way w (length old)
   unfolding walkedOf walkValues walkNext
   leaf-answer says =
       let counts = walkCounts (w .set .n) (ruleIn way (w .set)) (w .cell) (length old) in
       says ∙ ap (carry (refusal (w .set)) (onward w)) (o .answer)
-      ∙ carry-judged (refusal (w .set)) (onward w) (leafLines (ruleIn way (w .set)) (w .cell)) counts
-      ∙ ap (λ (x : Ruling). settle x (λ k. refused (refusal (w .set) k)) (done (onward w counts))) (sym (only-leaf way w (h .had) (h .accepted)))
+      ∙ carry-judged (refusal (w .set)) (onward w) (wayLines way (w .set) (w .cell)) counts
+      ∙ ap (λ (x : Ruling). settle x (λ k. refused (refusal (w .set) k)) (done (onward w counts))) (sym (only-leaf way w e))
 
   pub leaf-slice : new ≡ sliceOf way w old
   unfolding sliceOf
-  leaf-slice = o .slice ∙ ap (λ (x : Ruling). settle x (λ k. old) (walkSlice way w old)) (sym (only-leaf way w (h .had) (h .accepted)))
+  leaf-slice = o .slice ∙ ap (λ (x : Ruling). settle x (λ k. old) (walkSlice way w old)) (sym (only-leaf way w e))
 
 -- one address: the same
 module _ (way : Way) (s : Set) (x : ℕ) where

@@ -3,14 +3,14 @@ use laws::Leaf;
 use laws::Single;
 use laws::Way;
 use sets::Set;
-ghost use Rattle.laws.specs.Walk.{LeafOf, SingleOf};
+ghost use Rattle.laws.specs.Walk.{SingleOf};
 ghost use Rattle.sets.specs.declared.Family.the-variants.{Carrier};
 ghost use Rattle.walks.specs.Rules.{ruleOf, ruleIn};
-ghost use Rattle.walks.specs.Passed.{Taken};
+ghost use Rattle.walks.specs.Passed.{Taken, WalkLeaf};
 
 pub(super) fn walk(way: Way, set: Set, cell: usize, out: &mut [u16]) -> Leaf
     requires { ⌜ Taken set Carrier ⌝ }
-    ensures { λ r. ⌜ LeafOf (set .n) (ruleIn way set) cell (now (out .entry)) (now (out .exit)) r ⌝ }
+    ensures { λ r. ⌜ WalkLeaf way set cell (now (out .entry)) (now (out .exit)) r ⌝ }
 {
     let d = sets::rows_of(set) as usize;
     let s = sets::group_of(set) as usize;

@@ -1,16 +1,17 @@
 // The public calls on a parameter set: the walk for L, the walk for M, one address either way. Every input is tested inside. Here a set is
 // tested and the call given to its family; carriers.rt and turbo.rt have the families. A way stands for a list: L for the interleaver, which
 // takes output t from input L(t), and M for the deinterleaver, which takes output k from input M(k).
+ghost use mathlib.Core.Bool.{cond};
 ghost use mathlib.Core.Path.{_≡_};
 ghost use lib.ListN.{length};
 ghost use Rattle.laws.specs.declared.Way.the-variants.{Interleaver, Deinterleaver};
-ghost use Rattle.laws.specs.Walk.{LeafOf, SingleOf, sayLeaf, saySingle};
+ghost use Rattle.laws.specs.Walk.{SingleOf, sayLeaf, saySingle};
 ghost use Rattle.laws.specs.Leaves.{Fits, Small, carry};
 ghost use Rattle.sets.specs.Profiles.{familyOf};
 ghost use Rattle.sets.specs.Verdict.{refusal};
 ghost use Rattle.walks.specs.Rules.{ruleOf, ruleIn, barred};
 ghost use Rattle.walks.specs.Answer.{walkedOf, sliceOf, foundOf, sayWalked, sayFound};
-ghost use Rattle.walks.specs.Passed.{Accepted, Walkable, onward};
+ghost use Rattle.walks.specs.Passed.{Accepted, WalkLeaf, onward};
 
 mod carriers; // carriers.rt: the carrier family
 mod turbo; // turbo.rt: the turbo family
@@ -59,16 +60,26 @@ fn is_barred(way: Way, set: Set) -> bool
     }
 }
 
-// The walk of an accepted set, by family.
+// The walk of an accepted set, by family: 1 where it is not had.
 fn leaf(way: Way, set: Set, cell: usize, out: &mut [u16]) -> Leaf
-    requires { ⌜ Walkable way set ⌝ }
-    ensures { λ r. ⌜ LeafOf (set .n) (ruleIn way set) cell (now (out .entry)) (now (out .exit)) r ⌝ }
+    requires { ⌜ Accepted set ⌝ }
+    ensures { λ r. ⌜ WalkLeaf way set cell (now (out .entry)) (now (out .exit)) r ⌝ }
 {
     let family = sets::family_of(set);
     match family {
         Family::Carrier => carriers::walk(way, set, cell, out),
-        Family::Turbo => turbo::walk(set, cell, out),
+        Family::Turbo => turbo::walk(way, set, cell, out),
     }
+}
+
+// The refusal of a walk of a refused set: 1 where the walk is not had, before what the test of the set says.
+fn refused_walk(way: Way, set: Set, x: Refusal) -> Refusal
+    ensures { λ r. ⌜ r ≡ cond (barred way (familyOf set)) (refusal set 1) x ⌝ }
+{
+    if is_barred(way, set) {
+        return sets::refusal_of(set, 1);
+    }
+    x
 }
 
 // One address of an accepted set, by family.
@@ -125,12 +136,9 @@ pub fn walk_by(way: Way, w: Walk, out: &mut [u16]) -> Walked
     ensures slice { λ r. ⌜ now (out .exit) ≡ sliceOf way w (now (out .entry)) ⌝ }
 {
     let set = w.set;
-    if is_barred(way, set) {
-        return Walked::Refused(sets::refusal_of(set, 1));
-    }
     let v = sets::test(set);
     match v {
-        Verdict::Refused(x) => Walked::Refused(x),
+        Verdict::Refused(x) => Walked::Refused(refused_walk(way, set, x)),
         Verdict::Accepted => {
             let leaf = leaf(way, set, w.cell as usize, out);
             finish_walk(w, leaf)

@@ -3,16 +3,19 @@ use laws::Leaf;
 use laws::Single;
 use laws::Way;
 use sets::Set;
-ghost use Rattle.laws.specs.Walk.{LeafOf, SingleOf};
+ghost use Rattle.laws.specs.Walk.{SingleOf};
 ghost use Rattle.sets.specs.declared.Family.the-variants.{Turbo};
 ghost use Rattle.walks.specs.Rules.{ruleOf, ruleIn};
-ghost use Rattle.walks.specs.Passed.{Taken};
+ghost use Rattle.walks.specs.Passed.{Taken, WalkLeaf};
 
-pub(super) fn walk(set: Set, cell: usize, out: &mut [u16]) -> Leaf
+pub(super) fn walk(way: Way, set: Set, cell: usize, out: &mut [u16]) -> Leaf
     requires { ⌜ Taken set Turbo ⌝ }
-    ensures { λ r. ⌜ LeafOf (set .n) (ruleOf set) cell (now (out .entry)) (now (out .exit)) r ⌝ }
+    ensures { λ r. ⌜ WalkLeaf way set cell (now (out .entry)) (now (out .exit)) r ⌝ }
 {
-    wcdma::walk(set.n as usize, cell, out)
+    match way {
+        Way::Interleaver => wcdma::walk(set.n as usize, cell, out),
+        Way::Deinterleaver => Leaf::Stopped(1),
+    }
 }
 
 pub(super) fn address(way: Way, set: Set, x: usize) -> Single

@@ -1,7 +1,5 @@
 -- `walks::leaf` gives the walk to the family of the set.
-use mathlib.Core.Path.{refl, sym, _∙_}
-use Rattle.laws.specs.declared.Way.the-variants.{Interleaver}
-use Rattle.walks.specs.Families.{asked-for-l, leaf-in}
+use mathlib.Core.Path.{sym, _∙_}
 use borrow.Author.Needs.{needs}
 use Rattle.walks.proofs.leaf.Statement.{statement}
 use Rattle.walks.proofs.leaf.Tie as tie
@@ -14,14 +12,14 @@ enum-told c = search needs
 
 walk-requires : tie.Need-walk-requires
 walk-requires c κs =
-    record { accepted = c .before .before .before .before .before .pre .accepted; which = sym (c .before .before .before .family-of .ensures) ∙ c .before .enum-told .given .1 }
+    record { accepted = c .before .before .before .before .before .pre; which = sym (c .before .before .before .family-of .ensures) ∙ c .before .enum-told .given .1 }
 
 enum-told-2 : tie.Need-enum-told-2
 enum-told-2 c = search needs
 
 walk-requires-2 : tie.Need-walk-requires-2
 walk-requires-2 c κs =
-    record { accepted = c .before .before .before .before .before .pre .accepted; which = sym (c .before .before .before .family-of .ensures) ∙ c .before .enum-told2 .given .1 }
+    record { accepted = c .before .before .before .before .before .pre; which = sym (c .before .before .before .family-of .ensures) ∙ c .before .enum-told2 .given .1 }
 
 same-length : tie.Need-same-length
 same-length c = search needs
@@ -33,8 +31,7 @@ same-length-2 : tie.Need-same-length-2
 same-length-2 c = search needs
 
 returns-2 : tie.Need-returns-2
-returns-2 c =
-    leaf-in _ refl Interleaver (asked-for-l (c .before .before .before .before .before .before .before .before .args .way) (sym (c .before .before .before .before .before .before .family-of .ensures) ∙ c .before .before .before .before .enum-told2 .given .1) refl (c .before .before .before .before .before .before .before .before .pre .had)) (c .before .before .walk2 .ensures)
+returns-2 c = search needs
 
 pub leaf-spec : {M : Type 1} → statement M
 leaf-spec =

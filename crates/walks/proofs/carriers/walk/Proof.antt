@@ -1,6 +1,7 @@
 -- `walks::carriers::walk` is the set's walk: the leaf's, at the set's d, N and s.
 use Rattle.laws.specs.declared.Way.the-variants.{Interleaver, Deinterleaver}
-use Rattle.walks.specs.Families.{carrier-whole, carrier-rule, leaf-in}
+use Rattle.walks.specs.Passed.{had-leaf}
+use Rattle.walks.specs.Families.{carrier-whole, carrier-rule, leaf-in, barred-is}
 use borrow.Author.Needs.{needs}
 use Rattle.walks.proofs.carriers.walk.Statement.{statement}
 use Rattle.walks.proofs.carriers.walk.Tie as tie
@@ -42,14 +43,16 @@ same-length c = search needs
 
 returns : tie.Need-returns
 returns c =
-    leaf-in _ (carrier-rule (c .before .before .before .before .before .before .before .before .before .before .pre) (c .before .before .before .before .before .before .before .before .rows-of .ensures) (c .before .before .before .before .before .before .before .group-of .ensures .0)) Interleaver (c .before .before .before .before .before .enum-told .given .1) (c .before .before .walk .ensures)
+    let e = c .before .before .before .before .before .enum-told .given .1 in
+    had-leaf _ _ (barred-is e (c .before .before .before .before .before .before .before .before .before .before .pre .which)) (leaf-in _ (carrier-rule (c .before .before .before .before .before .before .before .before .before .before .pre) (c .before .before .before .before .before .before .before .before .rows-of .ensures) (c .before .before .before .before .before .before .before .group-of .ensures .0)) Interleaver e (c .before .before .walk .ensures))
 
 same-length-2 : tie.Need-same-length-2
 same-length-2 c = search needs
 
 returns-2 : tie.Need-returns-2
 returns-2 c =
-    leaf-in _ (carrier-rule (c .before .before .before .before .before .before .before .before .before .before .pre) (c .before .before .before .before .before .before .before .before .rows-of .ensures) (c .before .before .before .before .before .before .before .group-of .ensures .0)) Deinterleaver (c .before .before .before .before .before .enum-told2 .given .1) (c .before .before .walk2 .ensures)
+    let e = c .before .before .before .before .before .enum-told2 .given .1 in
+    had-leaf _ _ (barred-is e (c .before .before .before .before .before .before .before .before .before .before .pre .which)) (leaf-in _ (carrier-rule (c .before .before .before .before .before .before .before .before .before .before .pre) (c .before .before .before .before .before .before .before .before .rows-of .ensures) (c .before .before .before .before .before .before .before .group-of .ensures .0)) Deinterleaver e (c .before .before .walk2 .ensures))
 
 pub walk-spec : {M : Type 1} → statement M
 walk-spec =

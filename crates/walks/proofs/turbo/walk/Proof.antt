@@ -1,23 +1,35 @@
--- `walks::turbo::walk` is the set's walk for L: the leaf's, at the set's K.
+-- `walks::turbo::walk` is the set's walk for L, the leaf's, at the set's K; the walk for M is not had.
 use Rattle.laws.specs.declared.Way.the-variants.{Interleaver, Deinterleaver}
-use mathlib.Core.Path.{refl}
-use Rattle.walks.specs.Families.{turbo-sized, turbo-rule, leaf-in}
+use Rattle.walks.specs.Passed.{had-leaf, barred-leaf}
+use Rattle.walks.specs.Families.{turbo-sized, turbo-rule, leaf-in, barred-is}
 use borrow.Author.Needs.{needs}
 use Rattle.walks.proofs.turbo.walk.Statement.{statement}
 use Rattle.walks.proofs.turbo.walk.Tie as tie
+
+enum-told : tie.Need-enum-told
+enum-told c = search needs
 
 cast-walk : tie.Need-cast-walk
 cast-walk c = search needs
 
 walk-requires : tie.Need-walk-requires
-walk-requires c κs = turbo-sized (c .before .before .before .pre)
+walk-requires c κs = turbo-sized (c .before .before .before .before .before .pre)
+
+enum-told-2 : tie.Need-enum-told-2
+enum-told-2 c = search needs
 
 same-length : tie.Need-same-length
 same-length c = search needs
 
 returns : tie.Need-returns
 returns c =
-    leaf-in _ (turbo-rule (c .before .before .before .before .before .before .pre)) Interleaver refl (c .before .before .walk .ensures)
+    let e = c .before .before .before .before .before .enum-told .given .1 in
+    had-leaf _ _ (barred-is e (c .before .before .before .before .before .before .before .before .pre .which)) (leaf-in _ (turbo-rule (c .before .before .before .before .before .before .before .before .pre)) Interleaver e (c .before .before .walk .ensures))
+
+returns-2 : tie.Need-returns-2
+returns-2 c = barred-leaf _ _ (barred-is (c .enum-told2 .given .1) (c .before .before .before .pre .which))
 
 pub walk-spec : {M : Type 1} → statement M
-walk-spec = tie.close (tie.spec cast-walk walk-requires same-length returns)
+walk-spec =
+    tie.close
+    (tie.spec enum-told cast-walk walk-requires enum-told-2 same-length returns returns-2)
