@@ -12,7 +12,7 @@ use Rattle.sets.specs.declared.Set.{Set}
 use Rattle.walks.specs.Rules.{L, ruleOf, ruleIn}
 use Rattle.tables.specs.Answer.{blockLines, movedOf}
 use Rattle.movers.specs.Moves.{other, perm-in, movedBy, moved-is, moved-any, moved-blind}
-use Rattle.tables.specs.Passed.{all-clear, its-perm, its-lengths, its-output}
+use Rattle.tables.specs.Passed.{its-perm, its-lengths, its-output}
 use Rattle.blocks.specs.Answer.{moved}
 
 -- where a call is done

@@ -8,8 +8,6 @@ use mathlib.Core.Path.{_≡_, refl, sym, _∙_}
 use native.Mathlib.Omega.{arith}
 use lib.ListN.{length}
 use Rattle.laws.specs.declared.Way.{Way}
-use lib.ListN.{length}
-use Rattle.laws.specs.declared.Way.{Way}
 use Rattle.laws.specs.Outcome.{done, refused, Line, Ruling, clear, stopped, first, settle, judged, after, First, first-stopped, stopped-first}
 use Rattle.sets.specs.declared.Set.{Set}
 use Rattle.sets.specs.Size.{sizeOf}
@@ -116,6 +114,31 @@ start-zero store = zero-is-done (λ k. k) (λ k. k) (λ k. refl) (startLines sto
 pub feed-zero : (s : Stream) (store input out : List ℕ) → (streamNumberOf (fedOf s store input out) ≡ 0) ↔ (fedOf s store input out ≡ done (fedRecord s input))
 feed-zero s store input out =
     zero-is-done (λ k. k) (λ k. k) (λ k. refl) (feedLines s store input out) (fedRecord s input) (positive 6, (positive 8, (positive 5, tt)))
+
+-- and any other number exactly when the call is refused with it: its line is the first that applies (its sentences are Condition 1's)
+module _ (s : Set) (k : ℕ) (p : k ≢ 0) where
+  pub test-first : (numberOf (verdictOf s) ≡ k) ↔ First (setLines s) k
+  unfolding verdictOf
+  test-first = number-is-first (λ x. x .number) (refusal s) (refusal-number s) (setLines s) tt (set-numbered s) k p
+
+  pub address-first : (way : Way) (x : ℕ) → (numberOf (foundOf way s x) ≡ k) ↔ First (oneLines s x) k
+  unfolding foundOf
+  address-first way x = number-is-first (λ x. x .number) (refusal s) (refusal-number s) (oneLines s x) (ruleIn way s .l x) (one-numbered s x) k p
+
+  pub block-first : (total i o : ℕ) → (numberOf (movedOf s total i o) ≡ k) ↔ First (blockLines s total i o) k
+  block-first total i o = number-is-first (λ x. x .number) (refusal s) (refusal-number s) (blockLines s total i o) tt (block-numbered s total i o) k p
+
+pub walk-first : (way : Way) (w : Walk) (room k : ℕ) → k ≢ 0 → (numberOf (walkedOf way w room) ≡ k) ↔ First (walkLines way w) k
+unfolding walkedOf
+walk-first way w room k p =
+    number-is-first (λ x. x .number) (refusal (w .set)) (refusal-number (w .set)) (walkLines way w) (walkValues way w room) (walk-numbered way w) k p
+
+pub start-first : (store : List ℕ) (k : ℕ) → k ≢ 0 → (streamNumberOf (startedOf store) ≡ k) ↔ First (startLines store) k
+start-first store k p = number-is-first (λ k. k) (λ k. k) (λ k. refl) (startLines store) startRecord (positive 6, tt) k p
+
+pub feed-first : (s : Stream) (store input out : List ℕ) (k : ℕ) → k ≢ 0 → (streamNumberOf (fedOf s store input out) ≡ k) ↔ First (feedLines s store input out) k
+feed-first s store input out k p =
+    number-is-first (λ k. k) (λ k. k) (λ k. refl) (feedLines s store input out) (fedRecord s input) (positive 6, (positive 8, (positive 5, tt))) k p
 
 -- an out-parameter of each call is what any lent buffer is: the address ..
 pub address-out : (way : Way) (s : Set) (x old : ℕ) → outOf (foundOf way s x) (λ a. a) old ≡ after (oneLines s x) (ruleIn way s .l x) old

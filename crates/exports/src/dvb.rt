@@ -20,7 +20,8 @@ fn feed(way: Way, phase: &mut u32, store: &mut [u8], input: &[u8], out: &mut [u8
     ensures number { λ r. ⌜ r
         ≡ streamNumberOf (fedOf (streamOf (now (phase .entry))) (now (store .entry)) (now (input .entry)) (now (out .entry))) ⌝ }
     ensures phase { λ r. ⌜ now (phase .exit)
-        ≡ phaseOut (fedOf (streamOf (now (phase .entry))) (now (store .entry)) (now (input .entry)) (now (out .entry))) (now (phase .entry)) ⌝ }
+        ≡ phaseOut (fedOf (streamOf (now (phase .entry))) (now (store .entry)) (now (input .entry)) (now (out .entry)))
+        (now (phase .entry)) ⌝ }
     ensures store { λ r. ⌜ now (store .exit)
         ≡ storeOf way (streamOf (now (phase .entry))) (now (store .entry)) (now (input .entry)) (now (out .entry)) ⌝ }
     ensures output { λ r. ⌜ now (out .exit)
@@ -40,7 +41,8 @@ pub extern "C" fn interleaver_dvb_interleave(
     ensures number { λ r. ⌜ r
         ≡ streamNumberOf (fedOf (streamOf (now (phase .entry))) (now (store .entry)) (now (input .entry)) (now (out .entry))) ⌝ }
     ensures phase { λ r. ⌜ now (phase .exit)
-        ≡ phaseOut (fedOf (streamOf (now (phase .entry))) (now (store .entry)) (now (input .entry)) (now (out .entry))) (now (phase .entry)) ⌝ }
+        ≡ phaseOut (fedOf (streamOf (now (phase .entry))) (now (store .entry)) (now (input .entry)) (now (out .entry)))
+        (now (phase .entry)) ⌝ }
     ensures store { λ r. ⌜ now (store .exit)
         ≡ storeOf Interleaver (streamOf (now (phase .entry))) (now (store .entry)) (now (input .entry)) (now (out .entry)) ⌝ }
     ensures output { λ r. ⌜ now (out .exit)
@@ -60,7 +62,8 @@ pub extern "C" fn interleaver_dvb_deinterleave(
     ensures number { λ r. ⌜ r
         ≡ streamNumberOf (fedOf (streamOf (now (phase .entry))) (now (store .entry)) (now (input .entry)) (now (out .entry))) ⌝ }
     ensures phase { λ r. ⌜ now (phase .exit)
-        ≡ phaseOut (fedOf (streamOf (now (phase .entry))) (now (store .entry)) (now (input .entry)) (now (out .entry))) (now (phase .entry)) ⌝ }
+        ≡ phaseOut (fedOf (streamOf (now (phase .entry))) (now (store .entry)) (now (input .entry)) (now (out .entry)))
+        (now (phase .entry)) ⌝ }
     ensures store { λ r. ⌜ now (store .exit)
         ≡ storeOf Deinterleaver (streamOf (now (phase .entry))) (now (store .entry)) (now (input .entry)) (now (out .entry)) ⌝ }
     ensures output { λ r. ⌜ now (out .exit)

@@ -4,7 +4,7 @@ use Prim.Native.Nat.{ℕ, _*_}
 use mathlib.Core.List.{List}
 use lib.ListN.{length, getD}
 use Rattle.laws.specs.declared.Way.{Way}
-use Rattle.laws.specs.Outcome.{Outcome, done, refused}
+use Rattle.laws.specs.Outcome.{Outcome, done, refused, partOr}
 use Rattle.sets.specs.declared.Set.{Set}
 use Rattle.sets.specs.declared.Refusal.{Refusal}
 use Rattle.walks.specs.declared.Walk.{Walk}
@@ -49,8 +49,7 @@ streamNumberOf = numberBy (λ (k : ℕ). k)
 
 -- what an out-parameter holds after a call: a part of its values where it is done, else what it held
 abbrev pub outOf : {R A : Type 0} → Outcome R A → (A → ℕ) → ℕ → ℕ
-outOf (done a) part old = part a
-outOf (refused x) part old = old
+outOf o part old = partOr o part old
 
 -- the number behind `phase`: that of the record
 abbrev pub phaseOut : Outcome ℕ Stream → ℕ → ℕ

@@ -1,5 +1,5 @@
--- Where a walk ends: at the last cell, or with its room full, and never a cell later. These three say it whole: no other number of cells has
--- them. For any rule and test. Rests on Keep and Cut.
+-- Where a walk ends: at the last cell, or with its room full, and never a cell later. The three parts of `EndsAt` say it whole: no other
+-- number of cells has them. For any rule and test. Rests on Keep and Cut.
 use Prim.Native.Nat.{ℕ, zero, suc, _≤_, _<_}
 use mathlib.Core.Bool.{Bool, true, false, cond}
 use mathlib.Core.List.{List, _∷_}

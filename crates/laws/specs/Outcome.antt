@@ -11,6 +11,11 @@ pub data Outcome (R A : Type 0) : Type 0 where
   done : A → Outcome R A
   refused : R → Outcome R A
 
+-- a part of the values where a call is done, else another thing
+abbrev pub partOr : {R A B : Type 0} → Outcome R A → (A → B) → B → B
+partOr (done a) part z = part a
+partOr (refused r) part z = z
+
 -- what can be read back from what an answer says tells any two answers apart: answers that say the same are the same
 pub apart : {X Y : Type 0} (say : X → Y) (read : Y → X) → ((a : X) → read (say a) ≡ a) → (a b : X) → say a ≡ say b → a ≡ b
 apart say read same a b e = sym (same a) ∙ ap read e ∙ same b

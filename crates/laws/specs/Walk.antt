@@ -35,7 +35,7 @@ pub record Rule : Type 0 where
   pub m : ℕ → ℕ
   pub fails : Bool
 
--- the rule the other way round: a cell is an input position, and M is walked
+-- the rule the other way round: a cell is an input position, M is walked, and nothing is searched for
 abbrev pub back : ℕ → Rule → Rule
 back n r = record { total = n; address = r .m; l = r .m; m = r .l; fails = false }
 

@@ -1,4 +1,4 @@
-// Bytes.
+// Bytes moved by a lent table, either way.
 ghost use mathlib.Core.Path.{_≡_};
 ghost use lib.ListN.{length};
 ghost use Rattle.laws.specs.declared.Way.the-variants.{Interleaver, Deinterleaver};

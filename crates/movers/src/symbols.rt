@@ -1,4 +1,4 @@
-// Symbols of `width` bytes.
+// Symbols of `width` bytes moved by a lent table, either way.
 ghost use mathlib.Core.Path.{_≡_};
 ghost use Prim.Native.Nat.{_+_, _≤_};
 ghost use lib.ListN.{length, drop};

@@ -77,6 +77,15 @@ module _ {A : Type 0} where
   unfolding fedOutput
   as-long {way} {s} {store = store} {xs = xs} c = ap length (one-run c .output) ∙ length-output (slotOf way) nextOf xs s store
 
+  -- a start in a store of 1,122 bytes is done, and so is a feed with such a store, a phase in its range and an output as long as the input
+  pub served-start : (lent : List A) (f : A) → length lent ≡ 1122 → Fresh f startRecord (startStore f)
+  served-start lent f e = record { lent = lent; said = rw (eq-eqb (length lent) 1122 e); filled = rw (eq-eqb (length lent) 1122 e) }
+
+  pub served-feed : (c : Call A) → length (c .store) ≡ 1122 → c .stream .phase < 5654880 → length (c .output) ≡ length (c .input)
+      → says c ≡ done (fedRecord (c .stream) (c .input))
+  served-feed c l p e =
+      rw (eq-eqb (length (c .store)) 1122 l, lt-leb 5654880 (c .stream .phase) p, eq-eqb (length (c .output)) (length (c .input)) e)
+
   -- a start that is not refused gives its record, and a store full of f
   pub begun : {f : A} {s : Stream} {store : List A} → Fresh f s store → (s ≡ startRecord) × (store ≡ startStore f)
   begun {f} h =
@@ -129,7 +138,7 @@ module _ {A : Type 0} where
       let l : length store′ ≡ 1122 =
       ap length (one-run c .stored) ∙ length-store (slotOf way) nextOf xs s store ∙ ap length (started h .1) ∙ length-replicate (offset 17 12) f in
       let p : s′ .phase < 5654880 = rw (last-record h c) (mod-lt (length xs) (lit< tt)) in
-      rw (eq-eqb (length store′) 1122 l, lt-leb 5654880 (s′ .phase) p, eq-eqb (length out) (length input) e)
+      served-feed (record { way = way; stream = s′; store = store′; input = input; output = out }) l p e
 
   -- a feed of nothing into nothing is done and moves nothing
   abbrev pub nothing : Way → Stream → List A → Call A

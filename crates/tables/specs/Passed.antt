@@ -81,9 +81,9 @@ module _ (s : Set) (total i o : ℕ) where
   }
 
   -- it is done: the two lengths decide
-  pub plan-clear : {v : Values} (room : ℕ) → done v ≡ walkedOf Interleaver (begin s) room → first (planLines s) ≡ clear
+  pub walk-clear : {v : Values} (room : ℕ) → done v ≡ walkedOf Interleaver (begin s) room → first (planLines s) ≡ clear
   unfolding walkedOf
-  plan-clear {v} room e = sym (begin-lines s) ∙ answer-clear (refusal s) (walkValues Interleaver (begin s) room) (walkLines Interleaver (begin s)) (sym e)
+  walk-clear {v} room e = sym (begin-lines s) ∙ answer-clear (refusal s) (walkValues Interleaver (begin s) room) (walkLines Interleaver (begin s)) (sym e)
 
   module _ (p : first (planLines s) ≡ clear) (table : List ℕ) where
     front : first (blockLines s total i o) ≡ first (lengthLines total i o)

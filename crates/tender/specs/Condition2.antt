@@ -11,7 +11,6 @@ use Rattle.laws.specs.declared.Way.{Way}
 use Rattle.laws.specs.declared.Way.the-variants.{Interleaver, Deinterleaver}
 use Rattle.laws.specs.Outcome.{done}
 use Rattle.laws.specs.Perm.{Perm}
-use Rattle.laws.specs.Sized.{Sized}
 use Rattle.laws.specs.Told.{NoneTrue}
 use Rattle.laws.specs.Walk.{Rule}
 use Rattle.sets.specs.declared.Set.{Set}

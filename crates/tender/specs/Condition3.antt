@@ -18,7 +18,7 @@ use Rattle.laws.specs.Walk.{Rule}
 use Rattle.sets.specs.declared.Set.{Set}
 use Rattle.sets.specs.Profiles.{rowsOf, groupOf}
 use Rattle.sets.specs.Carried.{five-turbo, other-carrier}
-use Rattle.carrier.specs.Formula.{carrierL}
+use Rattle.carrier.specs.Formula.{carrierL, carrierM}
 use Rattle.wcdma_setup.specs.Rectangle.{cells}
 use Rattle.wcdma.specs.Turbo.{address}
 use Rattle.walks.specs.declared.Walk.{Walk}
@@ -29,12 +29,10 @@ use Rattle.walks.specs.Calls.{Call, Handed, joined, ended, examined, rooms}
 use Rattle.walks.specs.Calls as calls
 use Rattle.tender.specs.Condition2.{Listed, admits, L, M}
 
--- any list of calls, the accepted ones handing the record on, refused ones with any record between: the joined list, the end and the cells
--- are those of one walk with all their room
+-- any list of calls, the accepted ones handing the record on, refused ones of either way and with any record between: the joined list, the end and
+-- the cells are those of one walk with all their room
 pub walk-cut : (way : Way) {w : Walk} {cs : List Call} → Handed way w cs
-    → (joined way cs ≡ walkList way w (rooms way cs))
-    × (ended way w cs ≡ walkNext way w (rooms way cs))
-    × (examined way cs ≡ walkCells way w (rooms way cs))
+    → (joined cs ≡ walkList way w (rooms cs)) × (ended w cs ≡ walkNext way w (rooms cs)) × (examined cs ≡ walkCells way w (rooms cs))
 walk-cut way h = let r = calls.walk-cut way h in (r .list, r .end, r .cells)
 
 -- and a record that an accepted walk gives back is accepted again, whatever the room, so that a walk can always go on
@@ -55,9 +53,10 @@ rule-turbo s p =
     let e = rule-is s (five-turbo s p) in
     (ap (λ (r : Rule). r .total) e, ap (λ (r : Rule). r .address) e)
 
--- .. M: N cells, the input positions, and the address of a cell is M's
-pub rule-back : (s : Set) → (ruleIn Deinterleaver s .total ≡ s .n) × (ruleIn Deinterleaver s .address ≡ M s)
-rule-back s = (refl, refl)
+-- .. M, profiles 1 to 4: N cells, the input positions, and the address of a cell is the formula's
+pub rule-back : (s : Set) → s .profile ≢ 5
+    → (ruleIn Deinterleaver s .total ≡ s .n) × (ruleIn Deinterleaver s .address ≡ carrierM (rowsOf s) (s .n) (groupOf s))
+rule-back s ne = (refl, ap (λ (r : Rule). r .m) (rule-is s (other-carrier s ne)))
 
 module _ (way : Way) (w : Walk) (room : ℕ) where
   -- the closed form of the list: from any cell, with any room, the first of the addresses that are not padding among the cells from there to the total

@@ -33,6 +33,14 @@ module _ {A : Type 0} where
   pub as-long : {way : Way} {s s′ : Stream} {store xs ys store′ : List A} → Calls way s store xs ys s′ store′ → length ys ≡ length xs
   as-long calls = condition3.as-long calls
 
+  -- a start in a store of 1,122 bytes is done, and so is a feed with such a store, a phase in its range and an output as long as the input
+  pub served-start : (lent : List A) (f : A) → length lent ≡ 1122 → Fresh f startRecord (startStore f)
+  served-start lent f e = condition3.served-start lent f e
+
+  pub served-feed : (c : Call A) → length (c .store) ≡ 1122 → c .stream .phase < 5654880 → length (c .output) ≡ length (c .input)
+      → says c ≡ done (fedRecord (c .stream) (c .input))
+  served-feed c l p e = condition3.served-feed c l p e
+
   -- from a start with f: that run begins with start's own record and store, and it ends with the phase at the number of bytes fed
   pub one-run-started : {way : Way} {f : A} {s s′ : Stream} {store xs ys store′ : List A} → Fresh f s store → Calls way s store xs ys s′ store′
       → (ys ≡ fedOutput way startRecord (startStore f) xs) × (s′ ≡ phaseOf (length xs)) × (store′ ≡ fedStore way startRecord (startStore f) xs)

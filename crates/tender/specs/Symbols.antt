@@ -1,4 +1,4 @@
--- Conditions 2 of the tender for symbols of w bytes: what Condition2.antt says of N bytes or N soft values, of N symbols, each with all its bytes.
+-- Condition 2 of the tender for symbols of w bytes: what Condition2.antt says of N bytes or N soft values, of N symbols, each with all its bytes.
 use Prim.Native.Nat.{ℕ, _*_, _<_}
 use mathlib.Core.List.{List, map}
 use mathlib.Core.Path.{_≡_}
@@ -30,9 +30,13 @@ module _ {A : Type 0} (s : Set) (l : Listed s) (w : ℕ) (src dst : List A) (i :
   pub symbol-target : (k : ℕ) → k < s .n → take w (drop (M s k * w) (movedSymbols Interleaver s w src dst)) ≡ take w (drop (k * w) src)
   symbol-target k h = laws.target-of Interleaver s w src dst (served-symbols s w l i o) k h
 
-  -- deinterleaved, symbol t of the input is symbol L(t) of the output
+  -- deinterleaved, symbol t of the input is symbol L(t) of the output ..
   pub symbol-source-back : (t : ℕ) → t < s .n → take w (drop (L s t * w) (movedSymbols Deinterleaver s w src dst)) ≡ take w (drop (t * w) src)
   symbol-source-back t h = laws.target-of Deinterleaver s w src dst (served-symbols s w l i o) t h
+
+  -- .. and symbol k of the output is symbol M(k) of the input
+  pub symbol-target-back : (k : ℕ) → k < s .n → take w (drop (k * w) (movedSymbols Deinterleaver s w src dst)) ≡ take w (drop (M s k * w) src)
+  symbol-target-back k h = laws.source-of Deinterleaver s w src dst (served-symbols s w l i o) k h
 
   pub symbols-as-long : (way : Way) → length (movedSymbols way s w src dst) ≡ length src
   symbols-as-long way = laws.as-long way s w src dst (served-symbols s w l i o)

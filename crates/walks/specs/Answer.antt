@@ -19,7 +19,7 @@ use Rattle.walks.specs.declared.Found.{Found}
 use Rattle.walks.specs.declared.Found.the-variants as found
 use Rattle.walks.specs.Rules.{ruleOf, ruleIn, barred}
 
--- the lines of every call on a set but its test: 1, 2, 3, then 8, that the search for q gives up
+-- the lines that stand before a block's lengths: 1, 2, 3, then 8, that the search for q gives up
 unfoldable pub planLines : Set → List Line
 planLines s = setLines s ++ (line 8 (ruleOf s .fails) ∷ [])
 

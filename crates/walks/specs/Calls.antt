@@ -1,16 +1,15 @@
--- Condition 3 for the walks, both ways: any list of calls, those that are accepted handing the record on, refused ones with any record
+-- Condition 3 for the walks, both ways: any list of calls, those that are accepted handing the record on, refused ones of either way and with any record
 -- between, joined is one walk: the same list, the same end, the same cells. A call goes through the definitions that the contracts
 -- cite.
 use Prim.Native.Nat.{ℕ, _+_}
 use mathlib.Core.List.{List, [], _∷_, _++_}
 use mathlib.Core.Path.{_≡_, sym, ap, ap₂, _∙_}
 use native.Mathlib.Nat.{add-zero, zero-add, add-assoc}
-use native.Mathlib.Omega.{arith}
 use lib.ListN.{length, take, drop}
 use lib.Seq.{take-append-seam}
 use borrow.Author.Tests.{ltb-false, le-ltb}
 use Rattle.laws.specs.declared.Way.{Way}
-use Rattle.laws.specs.Outcome.{Outcome, done, refused, Clear, first-clear, clear-first, clear-front, clear-back, clear-then, done-clear, clear-done, answer-keeps, answer-clear, first, clear}
+use Rattle.laws.specs.Outcome.{Outcome, done, refused, partOr, first-clear, clear-first, clear-front, clear-back, clear-then, done-clear, answer-clear}
 use Rattle.laws.specs.Pieces as pieces
 use Rattle.laws.specs.Walk.{leafLines}
 use Rattle.laws.specs.Walk as along
@@ -20,50 +19,47 @@ use Rattle.walks.specs.declared.Walk.{Walk}
 use Rattle.walks.specs.Rules.{ruleIn}
 use Rattle.walks.specs.Answer.{walkLines, walkList, walkCells, walkNext, walkSlice, Values, walkValues, walkedOf, sliceOf}
 
--- a call: the record it is given, and the slice that is lent to it
+-- a call: for L or for M, the record it is given, and the slice that is lent to it
 pub record Call : Type 0 where
+  pub way : Way
   pub walk : Walk
   pub slice : List ℕ
 
--- one thing where an answer says done, with its values, another where it is refused
-abbrev pub told : {R B A : Type 0} → Outcome R B → (B → A) → A → A
-told (done v) f z = f v
-told (refused r) f z = z
+-- what a call answers
+abbrev pub answer : Call → Outcome Refusal Values
+answer c = walkedOf (c .way) (c .walk) (length (c .slice))
+
+-- and leaves in the slice
+abbrev pub left : Call → List ℕ
+left c = sliceOf (c .way) (c .walk) (c .slice)
+
+-- the addresses that calls wrote, one call after the other
+abbrev pub joined : List Call → List ℕ
+joined [] = []
+joined (c ∷ cs) = partOr (answer c) (λ v. take (v .written) (left c)) [] ++ joined cs
+
+-- the room that the accepted ones had
+abbrev pub rooms : List Call → ℕ
+rooms [] = 0
+rooms (c ∷ cs) = partOr (answer c) (λ v. length (c .slice)) 0 + rooms cs
+
+-- the cells that they examined
+abbrev pub examined : List Call → ℕ
+examined [] = 0
+examined (c ∷ cs) = partOr (answer c) (λ v. v .cells) 0 + examined cs
+
+-- the record after them
+abbrev pub ended : Walk → List Call → Walk
+ended w [] = w
+ended w (c ∷ cs) = partOr (answer c) (λ v. ended (v .next) cs) (ended w cs)
 
 module _ (way : Way) where
-  -- what a call answers
-  abbrev pub answer : Call → Outcome Refusal Values
-  answer c = walkedOf way (c .walk) (length (c .slice))
-
-  -- and leaves in the slice
-  abbrev pub left : Call → List ℕ
-  left c = sliceOf way (c .walk) (c .slice)
-
-  -- the addresses that calls wrote, one call after the other
-  abbrev pub joined : List Call → List ℕ
-  joined [] = []
-  joined (c ∷ cs) = told (answer c) (λ v. take (v .written) (left c)) [] ++ joined cs
-
-  -- the room that the accepted ones had
-  abbrev pub rooms : List Call → ℕ
-  rooms [] = 0
-  rooms (c ∷ cs) = told (answer c) (λ v. length (c .slice)) 0 + rooms cs
-
-  -- the cells that they examined
-  abbrev pub examined : List Call → ℕ
-  examined [] = 0
-  examined (c ∷ cs) = told (answer c) (λ v. v .cells) 0 + examined cs
-
-  -- the record after them
-  abbrev pub ended : Walk → List Call → Walk
-  ended w [] = w
-  ended w (c ∷ cs) = told (answer c) (λ v. ended (v .next) cs) (ended w cs)
-
-  -- calls that hand the record w on: an accepted one is made with the record in hand and gives the next, and the others are refused
+  -- calls that hand the record w on: an accepted one is made for the way, with the record in hand, and gives the next; the others, for L or for M
+  -- and with any record, are refused
   pub data Handed : Walk → List Call → Type 0 where
     none : {w : Walk} → Handed w []
     taken : {w : Walk} {old : List ℕ} {v : Values} {cs : List Call} → walkedOf way w (length old) ≡ done v → Handed (v .next) cs
-        → Handed w (record { walk = w; slice = old } ∷ cs)
+        → Handed w (record { way = way; walk = w; slice = old } ∷ cs)
     stray : {w : Walk} {c : Call} {x : Refusal} {cs : List Call} → answer c ≡ refused x → Handed w cs → Handed w (c ∷ cs)
 
   -- they are one walk with all their room
@@ -98,7 +94,7 @@ module _ (way : Way) where
 
   -- an accepted call, then the others
   one-more : (w : Walk) (old : List ℕ) (v : Values) (cs : List Call) → walkedOf way w (length old) ≡ done v → OneWalk (v .next) cs
-      → OneWalk w (record { walk = w; slice = old } ∷ cs)
+      → OneWalk w (record { way = way; walk = w; slice = old } ∷ cs)
   unfolding walkValues walkNext
   one-more w old v cs e r =
       let q = its-values w old v e in

@@ -1,4 +1,4 @@
--- The lists of L and M: that they undo each other below N, and that the walk for L from cell 0 writes the list of L.
+-- The list of L: what passes the test among the cells. It is L at 0 to N - 1, and L and M undo each other below N.
 use mathlib.Core.List.{List}
 use mathlib.Core.Path.{_≡_}
 use Prim.Native.Nat.{ℕ}

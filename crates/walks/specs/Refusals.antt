@@ -27,7 +27,7 @@ use Rattle.walks.specs.Answer.{planLines, walkLines, oneLines, walkValue
 abbrev pub SearchPasses : Set → Type 0
 SearchPasses s = (s .profile ≡ 5) × FewFound (s .n)
 
--- the sentences of every call on a set but its test: 1, 2, 3, then 8
+-- the sentences that stand before a block's lengths: 1, 2, 3, then 8
 abbrev pub planSentences : Set → List Sentence
 planSentences s = setSentences s ++ (sentence 8 (SearchPasses s) ∷ [])
 
@@ -64,7 +64,7 @@ barred-five Deinterleaver s e = (go (familyOf s) refl e, refl)
 five-barred : (way : Way) (s : Set) → barred way (familyOf s) ≡ false → (s .profile ≡ 5) × (way ≡ Deinterleaver) → ⊥
 five-barred way s e h = true≢false (sym (ap₂ barred (h .1) (five-turbo s (h .0))) ∙ e)
 
--- 8 of a walk: where the way is had, that of the plan
+-- 8 of a walk: where the way is had, that the search gives up
 walk-few : (way : Way) (s : Set) → ruleIn way s .fails ≡ true → SearchPasses s
 walk-few Interleaver s e = gives-few s e
 walk-few Deinterleaver s e = absurd (true≢false (sym e))
@@ -73,7 +73,7 @@ few-walk : (way : Way) (s : Set) → barred way (familyOf s) ≡ false → ruleI
 few-walk Interleaver s b e h = few-gives s e h
 few-walk Deinterleaver s b e h = five-barred Deinterleaver s b (h .0, refl)
 
--- the lines of the plan and their sentences, with others behind them
+-- 1, 2, 3 and 8 and their sentences, with others behind them
 pub plan-told : {C : Type 0} (s : Set) {ls : List Line} {ps : List Sentence}
     → Told (C × Clear (planLines s)) ls ps → Told C (planLines s ++ ls) (planSentences s ++ ps)
 unfolding planLines

@@ -6,7 +6,7 @@ use native.Mathlib.Omega.{arith}
 use lib.ListN.{length}
 use borrow.Author.Tests.{le-ltb, lt-ltb}
 use Rattle.laws.specs.declared.Way.the-variants.{Interleaver, Deinterleaver}
-use Rattle.laws.specs.Outcome.{Line, line, Ruling, clear, stopped, first, settle, first-join, clear-front, first-clear, clear-done}
+use Rattle.laws.specs.Outcome.{Line, line, clear, first, first-join, clear-front, first-clear, clear-done}
 use Rattle.laws.specs.Run.{run, length-run}
 use Rattle.laws.specs.Loop.{by}
 use Rattle.laws.specs.Once.{inside}

@@ -1,4 +1,4 @@
--- A wrong build that no edit gives without the proof losing its shape, as a definition, and where it differs from the walk: at K 41 the sixth cell is padding, and
+-- A wrong build, stated as a definition: a walk that also passes the padding after its slice is full; and where it differs: at K 41 the sixth cell is padding, and
 -- a walk from cell 0 with room for 5 stops before it, and one from that cell with no room stays. Both sides are computed.
 use Prim.Native.Nat.{ℕ, zero, suc, _-_}
 use mathlib.Core.Bool.{Bool, cond}

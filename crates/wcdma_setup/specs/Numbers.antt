@@ -1,4 +1,4 @@
--- The numbers q of the rows, 3GPP TS 25.212 4.2.3.2.3: primes above 6 with no common divisor with p - 1. The search for each goes up to
+-- The numbers q of the rows, 3GPP TS 25.212 4.2.3.2.3.2: primes above 6 with no common divisor with p - 1. The search for each goes up to
 -- 89. These are definitions.
 use Prim.Native.Nat.{ℕ, zero, suc, _-_, _%_}
 use mathlib.Core.Bool.{Bool, true, cond, not, _&&_}

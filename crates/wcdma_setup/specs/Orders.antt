@@ -1,4 +1,4 @@
--- The row orders T, 3GPP TS 25.212 4.2.3.2.3, table 3: two of twenty rows, chosen by K, and for fewer rows the last row first. Each order of
+-- The row orders T, 3GPP TS 25.212 4.2.3.2.3.2, table 3: two of twenty rows, chosen by K, and for fewer rows the last row first. Each order of
 -- twenty has every row once: one computed test over the whole table.
 use Prim.Native.Nat.{ℕ, _-_, _<_}
 use mathlib.Core.Bool.{Bool, true, false, cond, _&&_, _||_}

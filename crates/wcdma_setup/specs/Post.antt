@@ -1,4 +1,4 @@
--- What the functions of the plan are given and ensure, part by part. These are definitions.
+-- What the functions of the set-up are given and ensure, part by part. These are definitions.
 use Prim.Native.Nat.{ℕ, _-_, _%_, _<_, _≤_}
 use mathlib.Core.List.{List}
 use mathlib.Core.Bool.{Bool, true, cond}

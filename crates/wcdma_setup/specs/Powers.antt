@@ -1,4 +1,4 @@
--- The base sequence S and the primitive root v, 3GPP TS 25.212 4.2.3.2.3. These are definitions.
+-- The base sequence S and the primitive root v, 3GPP TS 25.212 4.2.3.2.3.2. These are definitions.
 use Prim.Native.Nat.{ℕ, zero, suc, _*_, _-_, _%_}
 use mathlib.Core.Bool.{Bool, cond, not, _&&_, _||_}
 use lib.Dec.{eqb}

@@ -1,4 +1,4 @@
--- The rectangle of the WCDMA turbo interleaver, 3GPP TS 25.212 4.2.3.2.3: a block of K symbols is written into R rows of C columns,
+-- The rectangle of the WCDMA turbo interleaver, 3GPP TS 25.212 4.2.3.2.3.1: a block of K symbols is written into R rows of C columns,
 -- with a prime p. These are definitions.
 use Prim.Native.Nat.{ℕ, _+_, _*_, _-_, _≤_}
 use mathlib.Core.Bool.{Bool, cond, _&&_, _||_}

@@ -1,5 +1,4 @@
--- The powers of v modulo p, and what the primitive roots of the 52 primes are: one computed test over the table. Rests on Powers. Assumes
--- nothing.
+-- The powers of v modulo p, and what the primitive roots of the 52 primes are: one computed test over the table. Rests on Powers.
 use Prim.Native.Nat.{ℕ, zero, suc, _+_, _*_, _-_, _%_, _≤_, _<_}
 use mathlib.Core.Bool.{Bool, true, false, cond, not, _&&_, false≢true}
 use mathlib.Core.List.{List·Memᴰ}
