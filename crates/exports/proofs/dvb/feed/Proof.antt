@@ -1,4 +1,6 @@
 -- `exports::dvb::feed` hands on what is said of the machine that is lent.
+use mathlib.Core.Path.{_≡_}
+use Rattle.flat.specs.Flat.{streamOf}
 use borrow.Author.Needs.{needs}
 use Rattle.exports.proofs.dvb.feed.Statement.{statement}
 use Rattle.exports.proofs.dvb.feed.Tie as tie
@@ -20,9 +22,10 @@ same-length-2 c = search needs
 
 returns : tie.Need-returns
 returns c =
+    let lent : c .before .before .before .before .before .before .before .before .before .record-of .result ≡ streamOf (c .before .before .before .before .before .before .before .before .before .before .before .before .before .before .args .phase .now) = c .before .before .before .before .before .before .before .before .before .record-of .ensures in
     let said = c .before .before .before .before .before .before .feed .ensures in
     let held = c .fed .ensures in
-    rw (← c .before .before .before .before .before .before .before .before .before .record-of .ensures, ← said .0) (held .0, (held .1, said .1))
+    rw (← lent, ← said .0) (held .0, (held .1, said .1))
 
 pub feed-spec : {M : Type 1} → statement M
 feed-spec =

@@ -1,4 +1,7 @@
 -- `exports::lists::find` hands on what is said of the set that is lent.
+use mathlib.Core.Path.{_≡_}
+use Rattle.walks.specs.Answer.{foundOf, sayFound}
+use Rattle.flat.specs.Flat.{setOf}
 use borrow.Author.Needs.{needs}
 use Rattle.exports.proofs.lists.find.Statement.{statement}
 use Rattle.exports.proofs.lists.find.Tie as tie
@@ -14,7 +17,8 @@ found-requires c κs = search needs
 
 returns : tie.Need-returns
 returns c =
-    rw (← c .before .before .before .set-of .ensures, ← c .before .before .address-by .ensures) (c .found .ensures)
+    let said : sayFound (c .before .before .address-by .result) ≡ foundOf (c .before .before .before .before .args .way) (setOf (c .before .before .before .before .args .set .now)) (c .before .before .before .before .args .x) = rw (← c .before .before .before .set-of .ensures) (c .before .before .address-by .ensures) in
+    rw (← said) (c .found .ensures)
 
 pub find-spec : {M : Type 1} → statement M
 find-spec = tie.close (tie.spec set-of-requires address-by-requires found-requires returns)

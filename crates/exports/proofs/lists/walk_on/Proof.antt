@@ -1,4 +1,6 @@
 -- `exports::lists::walk_on` hands on, part by part, what is said of the walk that is lent.
+use mathlib.Core.Path.{_≡_}
+use Rattle.flat.specs.Flat.{walkOf}
 use borrow.Author.Needs.{needs}
 use Rattle.exports.proofs.lists.walk_on.Statement.{statement}
 use Rattle.exports.proofs.lists.walk_on.Tie as tie
@@ -17,9 +19,10 @@ same-length c = search needs
 
 returns : tie.Need-returns
 returns c =
+    let lent : c .before .before .before .before .before .before .before .before .walk-of .result ≡ walkOf (c .before .before .before .before .before .before .before .before .before .before .before .args .set .now) (c .before .before .before .before .before .before .before .before .before .before .before .args .cell .now) = c .before .before .before .before .before .before .before .before .walk-of .ensures in
     let said = c .before .before .before .before .before .before .walk-by .ensures in
     let held = c .walked .ensures in
-    rw (← c .before .before .before .before .before .before .before .before .walk-of .ensures, ← said .0) (held .0, (held .1 .0, (said .1, held .1 .1)))
+    rw (← lent, ← said .0) (held .0, (held .1 .0, (said .1, held .1 .1)))
 
 pub walk-on-spec : {M : Type 1} → statement M
 walk-on-spec =

@@ -1,4 +1,8 @@
 -- `exports::moves::move_symbols` hands the call's answer on.
+use Prim.Native.Nat.{_*_}
+use mathlib.Core.Path.{_≡_}
+use lib.ListN.{length}
+use Rattle.tables.specs.Answer.{movedOf, sayMoved}
 use borrow.Author.Needs.{needs}
 use Rattle.exports.proofs.moves.move_symbols.Statement.{statement}
 use Rattle.exports.proofs.moves.move_symbols.Tie as tie
@@ -17,8 +21,8 @@ same-length c = search needs
 
 returns : tie.Need-returns
 returns c =
-    let said = c .before .before .before .move-symbols .ensures in
-    rw (← c .before .before .before .before .before .set-of .ensures, ← said .0) (c .told .ensures, said .1)
+    let said : sayMoved (c .before .before .before .move-symbols .result) ≡ movedOf (c .before .before .before .before .before .set-of .result) (c .before .before .before .before .before .set-of .result .n * c .before .before .before .before .before .before .before .before .args .width) (length (c .before .before .before .before .before .before .before .before .args .src .now)) (length (c .before .before .before .before .before .before .before .before .args .dst .now)) = c .before .before .before .move-symbols .ensures .0 in
+    rw (← c .before .before .before .before .before .set-of .ensures, ← said) (c .told .ensures, c .before .before .before .move-symbols .ensures .1)
 
 pub move-symbols-spec : {M : Type 1} → statement M
 move-symbols-spec =
