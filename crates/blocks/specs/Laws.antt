@@ -9,7 +9,7 @@ use Rattle.laws.specs.Outcome.{done, clear, first, after, after-map, after-same
 use Rattle.laws.specs.Perm.{Perm}
 use Rattle.laws.specs.Move.{gather, getD-gather, length-gather, back}
 use Rattle.sets.specs.declared.Set.{Set}
-use Rattle.walks.specs.Rules.{L, ruleOf, ruleIn}
+use Rattle.families.specs.Rules.{L, ruleOf, ruleIn}
 use Rattle.tables.specs.Answer.{blockLines, movedOf}
 use Rattle.movers.specs.Moves.{other, perm-in, movedBy, moved-is, moved-any, moved-blind}
 use Rattle.tables.specs.Passed.{its-perm, its-lengths, its-output}

@@ -6,7 +6,7 @@ use lib.ListN.{length}
 use Rattle.laws.specs.declared.Way.{Way}
 use Rattle.laws.specs.Sentences.{FirstTrue}
 use Rattle.sets.specs.declared.Set.{Set}
-use Rattle.walks.specs.Rules.{L}
+use Rattle.families.specs.Rules.{L}
 use Rattle.movers.specs.Moves.{movedBy}
 use Rattle.tables.specs.Refusals.{blockSentences, buffer-kept}
 use Rattle.blocks.specs.Answer.{moved}

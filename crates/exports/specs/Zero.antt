@@ -14,7 +14,7 @@ use Rattle.sets.specs.Size.{sizeOf}
 use Rattle.sets.specs.Beside.{besideLines}
 use Rattle.sets.specs.Verdict.{sizeLines, setLines, verdictOf, refusal, refusal-number}
 use Rattle.walks.specs.declared.Walk.{Walk}
-use Rattle.walks.specs.Rules.{ruleIn}
+use Rattle.families.specs.Rules.{ruleIn}
 use Rattle.walks.specs.Answer.{planLines, walkLines, oneLines, walkList, walkCells, walkNext, Values, walkValues, walkedOf, foundOf}
 use Rattle.tables.specs.Answer.{blockLines, movedOf}
 use Rattle.streams.specs.declared.Stream.{Stream}

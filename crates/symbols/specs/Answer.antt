@@ -5,7 +5,7 @@ use lib.ListN.{length}
 use Rattle.laws.specs.declared.Way.{Way}
 use Rattle.laws.specs.Outcome.{after}
 use Rattle.sets.specs.declared.Set.{Set}
-use Rattle.walks.specs.Rules.{L}
+use Rattle.families.specs.Rules.{L}
 use Rattle.tables.specs.Answer.{blockLines}
 use Rattle.movers.specs.Grouped.{symbolsBy}
 

@@ -7,7 +7,7 @@ use lib.ListN.{length, take, drop, length-map}
 use Rattle.laws.specs.declared.Way.{Way}
 use Rattle.laws.specs.Outcome.{after, after-map}
 use Rattle.sets.specs.declared.Set.{Set}
-use Rattle.walks.specs.Rules.{L}
+use Rattle.families.specs.Rules.{L}
 use Rattle.tables.specs.Answer.{blockLines}
 use Rattle.movers.specs.Moves.{movedBy, moved-blind}
 use Rattle.movers.specs.Groups.{groups, joined}

@@ -9,7 +9,7 @@ use Rattle.laws.specs.Outcome.{done}
 use Rattle.laws.specs.Perm.{Perm}
 use Rattle.laws.specs.Move.{gather, getD-gather, back}
 use Rattle.sets.specs.declared.Set.{Set}
-use Rattle.walks.specs.Rules.{L, ruleOf, ruleIn}
+use Rattle.families.specs.Rules.{L, ruleOf, ruleIn}
 use Rattle.tables.specs.Answer.{movedOf}
 use Rattle.movers.specs.Moves.{other, perm-in, moved-is}
 use Rattle.tables.specs.Passed.{its-perm, its-lengths, its-output}

@@ -11,7 +11,7 @@ use Rattle.laws.specs.Outcome.{done, after, after-same}
 use Rattle.laws.specs.Run.{run, run-same}
 use Rattle.laws.specs.Move.{gather}
 use Rattle.sets.specs.declared.Set.{Set}
-use Rattle.walks.specs.Rules.{ruleOf, ruleIn}
+use Rattle.families.specs.Rules.{ruleOf, ruleIn}
 use Rattle.tables.specs.Answer.{blockLines, movedOf}
 use Rattle.movers.specs.Moves.{perm-in, moved-is}
 use Rattle.tables.specs.Passed.{its-perm, its-lengths}

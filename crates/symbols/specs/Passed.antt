@@ -6,7 +6,7 @@ use lib.ListN.{length}
 use Rattle.laws.specs.declared.Way.{Way}
 use Rattle.laws.specs.Loop.{by}
 use Rattle.sets.specs.declared.Set.{Set}
-use Rattle.walks.specs.Rules.{L}
+use Rattle.families.specs.Rules.{L}
 use Rattle.tables.specs.declared.Moved.{Moved}
 use Rattle.tables.specs.declared.Moved.the-variants.{Done}
 use Rattle.movers.specs.Moves.{moved-same}

@@ -13,9 +13,9 @@ use Rattle.laws.specs.Perm.{Perm}
 use Rattle.sets.specs.declared.Set.{Set}
 use Rattle.sets.specs.declared.Refusal.{Refusal}
 use Rattle.sets.specs.Verdict.{refusal}
-use Rattle.walks.specs.Rules.{L, M}
+use Rattle.families.specs.Rules.{L, M}
 use Rattle.walks.specs.Answer.{planLines, walkLines, walkSlice, Values, walkValues, walkedOf, sliceOf}
-use Rattle.walks.specs.Passed.{Accepted}
+use Rattle.families.specs.Taken.{Accepted}
 use Rattle.walks.specs.Lists.{each-once}
 use Rattle.walks.specs.Whole.{begin, begin-lines, plan-accepted, table-is}
 use Rattle.walks.specs.Served as served

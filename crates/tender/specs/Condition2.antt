@@ -25,8 +25,8 @@ use Rattle.carrier.specs.Formula.{carrierL, carrierM}
 use Rattle.carrier.specs.Once.{carrier-once}
 use Rattle.wcdma.specs.Turbo.{turboL, turboM}
 use Rattle.walks.specs.declared.Walk.{Walk}
-use Rattle.walks.specs.Rules.{ruleIn, rule-is}
-use Rattle.walks.specs.Rules as rules
+use Rattle.families.specs.Rules.{ruleIn, rule-is}
+use Rattle.families.specs.Rules as rules
 use Rattle.walks.specs.Lists as lists
 use Rattle.walks.specs.Answer.{walkedOf, walkValues, foundOf}
 use Rattle.walks.specs.Served.{walk-served, address-served, walkable-listed}

@@ -22,7 +22,7 @@ use Rattle.carrier.specs.Formula.{carrierL, carrierM}
 use Rattle.wcdma_setup.specs.Rectangle.{cells}
 use Rattle.wcdma.specs.Turbo.{address}
 use Rattle.walks.specs.declared.Walk.{Walk}
-use Rattle.walks.specs.Rules.{ruleIn, rule-is}
+use Rattle.families.specs.Rules.{ruleIn, rule-is}
 use Rattle.walks.specs.Answer.{Values, walkedOf, walkList, walkCells, walkPadding, walkNext, walkValues}
 use Rattle.walks.specs.Whole.{behind, walk-l-is, walk-m-is}
 use Rattle.walks.specs.Calls.{Call, Handed, joined, ended, examined, rooms}

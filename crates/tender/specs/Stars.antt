@@ -21,8 +21,8 @@ use Rattle.wcdma_setup.specs.Numbers.{noDivisor, isPrime, passes, nextIn, nextQ
 use Rattle.wcdma_setup.specs.Orders.{rowOrders, whichOrder, orderOf, rowAt}
 use Rattle.wcdma.specs.Turbo.{entry, address, addresses, turboM, padCells}
 use Rattle.wcdma.specs.Pads.{cells-are}
-use Rattle.walks.specs.Rules.{ruleOf}
-use Rattle.walks.specs.Rules as rules
+use Rattle.families.specs.Rules.{ruleOf}
+use Rattle.families.specs.Rules as rules
 use Rattle.walks.specs.Lists.{listL}
 
 -- what 01 asks of a set. Some questions have an argument x, said here; for the others it is 0 and not read

@@ -17,7 +17,7 @@ use Rattle.walks.specs.declared.Walked.{Walked}
 use Rattle.walks.specs.declared.Walked.the-variants.{Done, Refused}
 use Rattle.walks.specs.declared.Found.{Found}
 use Rattle.walks.specs.declared.Found.the-variants as found
-use Rattle.walks.specs.Rules.{ruleOf, ruleIn, barred}
+use Rattle.families.specs.Rules.{ruleOf, ruleIn, barred}
 
 -- the lines that stand before a block's lengths: 1, 2, 3, then 8, that the search for q gives up
 unfoldable pub planLines : Set → List Line

@@ -16,7 +16,7 @@ use Rattle.laws.specs.Walk as along
 use Rattle.sets.specs.declared.Refusal.{Refusal}
 use Rattle.sets.specs.Verdict.{setLines, refusal}
 use Rattle.walks.specs.declared.Walk.{Walk}
-use Rattle.walks.specs.Rules.{ruleIn}
+use Rattle.families.specs.Rules.{ruleIn}
 use Rattle.walks.specs.Answer.{walkLines, walkList, walkCells, walkNext, walkSlice, Values, walkValues, walkedOf, sliceOf}
 
 -- a call: for L or for M, the record it is given, and the slice that is lent to it

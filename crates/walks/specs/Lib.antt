@@ -1,7 +1,5 @@
-pub mod Rules
 pub mod Answer
 pub mod Passed
-pub mod Families
 pub mod Lists
 pub mod Calls
 pub mod Whole

@@ -7,8 +7,8 @@ use Rattle.laws.specs.Keep.{keep}
 use Rattle.laws.specs.Once.{inside}
 use Rattle.laws.specs.Perm.{Perm}
 use Rattle.sets.specs.declared.Set.{Set}
-use Rattle.walks.specs.Rules.{ruleOf, L, M, lawful}
-use Rattle.walks.specs.Passed.{Accepted}
+use Rattle.families.specs.Rules.{ruleOf, L, M, lawful}
+use Rattle.families.specs.Taken.{Accepted}
 
 -- the list of L: what passes the test among the cells
 unfoldable pub listL : Set → List ℕ

@@ -19,54 +19,14 @@ use Rattle.sets.specs.declared.Refusal.{Refusal}
 use Rattle.sets.specs.Profiles.{familyOf}
 use Rattle.sets.specs.Verdict.{setLines, refusal, verdictOf}
 use Rattle.walks.specs.declared.Walk.{Walk}
-use Rattle.walks.specs.Rules.{ruleOf, ruleIn, barred, lawful-way}
+use Rattle.families.specs.Rules.{ruleOf, ruleIn, barred}
+use Rattle.families.specs.Taken.{Accepted, wayLines, WalkLeaf}
 use Rattle.walks.specs.Answer.{walkLines, oneLines, Values, values, walkNext, walkSlice, walkValues, walkedOf, sliceOf, foundOf}
-
--- the test of a set accepts it
-abbrev pub Accepted : Set → Type 0
-Accepted s = verdictOf s ≡ done tt
-
--- and it is of a family
-pub record Taken (s : Set) (family : Family) : Type 0 where
-  pub accepted : Accepted s
-  pub which : familyOf s ≡ family
-
--- and the walk of a way is had
-pub record Walkable (way : Way) (s : Set) : Type 0 where
-  pub accepted : Accepted s
-  pub had : barred way (familyOf s) ≡ false
 
 -- lines 1 to 3 are clear, so the lines behind them decide
 pub accepted-front : (s : Set) (more : List Line) → Accepted s → first (setLines s ++ more) ≡ first more
 unfolding verdictOf
 accepted-front s more e = done-front (refusal s) tt tt (setLines s) more e
-
--- what the leaf of a walk promises of an accepted set: 1 where the walk is not had, else what its rule's leaf does
-abbrev pub wayLines : Way → Set → ℕ → List Line
-wayLines way s cell = line 1 (barred way (familyOf s)) ∷ leafLines (ruleIn way s) cell
-
-pub record WalkLeaf (way : Way) (s : Set) (cell : ℕ) (old new : List ℕ) (leaf : Leaf) : Type 0 where
-  pub answer : sayLeaf leaf ≡ judged (λ k. k) (wayLines way s cell) (walkCounts (s .n) (ruleIn way s) cell (length old))
-  pub slice : new ≡ after (wayLines way s cell) (along.walkSlice (s .n) (ruleIn way s) cell old) old
-
-module _ (way : Way) (s : Set) {cell : ℕ} {old new : List ℕ} {leaf : Leaf} (o : barred way (familyOf s) ≡ false) where
-  pub had-leaf : LeafOf (s .n) (ruleIn way s) cell old new leaf → WalkLeaf way s cell old new leaf
-  had-leaf l = record { answer = rw o (l .answer); slice = rw o (l .slice) }
-
-  pub leaf-had : WalkLeaf way s cell old new leaf → LeafOf (s .n) (ruleIn way s) cell old new leaf
-  leaf-had l = record { answer = rw o at (l .answer); slice = rw o at (l .slice) }
-
-pub barred-leaf : (way : Way) (s : Set) {cell : ℕ} {old : List ℕ} → barred way (familyOf s) ≡ true → WalkLeaf way s cell old old (Stopped 1)
-barred-leaf way s b = record { answer = rw b; slice = rw b }
-
--- its numbers fit
-pub walk-leaf-fits : (way : Way) (s : Set) {cell : ℕ} {old new : List ℕ} (leaf : Leaf) → Accepted s → WalkLeaf way s cell old new leaf → Fits cell leaf
-walk-leaf-fits way s (Stopped k) e l = tt
-walk-leaf-fits way s {cell} {old} (Went a c) e l = go (barred way (familyOf s)) refl
-  where
-    go : (b : Bool) → barred way (familyOf s) ≡ b → Fits cell (Went a c)
-    go false o = leaf-fits (lawful-way way s e) (Went a c) (leaf-had way s o l)
-    go true o = let q = rw o at (l .answer) in let z : _≡_ {A = ℕ} 0 1 = cc in absurd (omega arith)
 
 -- a set that is refused is refused by its walk, with 1 where that is not had, and no slice changes
 module _ (way : Way) (w : Walk) {x : Refusal} (e : verdictOf (w .set) ≡ refused x) where

@@ -20,7 +20,7 @@ use Rattle.sets.specs.Verdict.{refusal}
 use Rattle.sets.specs.Refusals.{setSentences, set-told, refusals-apart}
 use Rattle.wcdma_setup.specs.Search.{FewFound, fails-few, few-fails}
 use Rattle.walks.specs.declared.Walk.{Walk}
-use Rattle.walks.specs.Rules.{familyRule, ruleOf, ruleIn, oneWay, barred, rule-is}
+use Rattle.families.specs.Rules.{familyRule, ruleOf, ruleIn, oneWay, barred, rule-is}
 use Rattle.walks.specs.Answer.{planLines, walkLines, oneLines, walkValues, walkSlice, walkedOf, sliceOf, foundOf}
 
 -- 8: the search for q passes 89 with fewer than R found

@@ -15,9 +15,10 @@ use Rattle.sets.specs.Profiles.{familyOf}
 use Rattle.sets.specs.Carried.{other-carrier}
 use Rattle.wcdma_setup.specs.Found.{search-ends}
 use Rattle.walks.specs.declared.Walk.{Walk}
-use Rattle.walks.specs.Rules.{familyRule, ruleOf, ruleIn, oneWay, barred}
+use Rattle.families.specs.Rules.{familyRule, ruleOf, ruleIn, oneWay, barred}
 use Rattle.walks.specs.Answer.{planLines, walkLines, oneLines, walkValues, walkedOf, foundOf}
-use Rattle.walks.specs.Passed.{Accepted, Walkable, accepted-front}
+use Rattle.families.specs.Taken.{Accepted, Walkable}
+use Rattle.walks.specs.Passed.{accepted-front}
 
 -- no set's set-up gives up
 pub never-fails : (s : Set) → ruleOf s .fails ≡ false

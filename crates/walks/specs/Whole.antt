@@ -16,9 +16,9 @@ use Rattle.laws.specs.Walk as along
 use Rattle.sets.specs.declared.Set.{Set}
 use Rattle.sets.specs.Verdict.{setLines, refusal, verdictOf}
 use Rattle.walks.specs.declared.Walk.{Walk}
-use Rattle.walks.specs.Rules.{ruleOf, ruleIn, L, M, lawful, lawful-way}
+use Rattle.families.specs.Rules.{ruleOf, ruleIn, L, M, lawful, lawful-way}
 use Rattle.walks.specs.Answer.{planLines, walkLines, walkList, walkSlice}
-use Rattle.walks.specs.Passed.{Accepted}
+use Rattle.families.specs.Taken.{Accepted}
 
 -- the record at the beginning
 abbrev pub begin : Set → Walk

@@ -10,7 +10,7 @@ use Rattle.laws.specs.Walk as along
 use Rattle.sets.specs.Profiles.{familyOf, rowsOf, groupOf}
 use Rattle.carrier.specs.Formula.{backStep, lastStep, carrierL}
 use Rattle.walks.specs.declared.Walk.{Walk}
-use Rattle.walks.specs.Rules.{ruleOf}
+use Rattle.families.specs.Rules.{ruleOf}
 use Rattle.walks.specs.Answer.{walkList, walkSlice}
 
 -- the slice of a walk that clears what it does not write

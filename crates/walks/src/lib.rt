@@ -1,25 +1,20 @@
 // The public calls on a parameter set: the walk for L, the walk for M, one address either way. Every input is tested inside. Here a set is
-// tested and the call given to its family; carriers.rt and turbo.rt have the families. A way stands for a list: L for the interleaver, which
+// tested and the call given to its family, in crate families. A way stands for a list: L for the interleaver, which
 // takes output t from input L(t), and M for the deinterleaver, which takes output k from input M(k).
 ghost use mathlib.Core.Bool.{cond};
 ghost use mathlib.Core.Path.{_≡_};
 ghost use lib.ListN.{length};
 ghost use Rattle.laws.specs.declared.Way.the-variants.{Interleaver, Deinterleaver};
-ghost use Rattle.laws.specs.Walk.{SingleOf, sayLeaf, saySingle};
+ghost use Rattle.laws.specs.Walk.{sayLeaf, saySingle};
 ghost use Rattle.laws.specs.Leaves.{Fits, Small, carry};
 ghost use Rattle.sets.specs.Profiles.{familyOf};
 ghost use Rattle.sets.specs.Verdict.{refusal};
-ghost use Rattle.walks.specs.Rules.{ruleOf, ruleIn, barred};
+ghost use Rattle.families.specs.Rules.{barred};
 ghost use Rattle.walks.specs.Answer.{walkedOf, sliceOf, foundOf, sayWalked, sayFound};
-ghost use Rattle.walks.specs.Passed.{Accepted, WalkLeaf, onward};
-
-mod carriers; // carriers.rt: the carrier family
-mod turbo; // turbo.rt: the turbo family
-
+ghost use Rattle.walks.specs.Passed.{onward};
 use laws::Leaf;
 use laws::Single;
 use laws::Way;
-use sets::Family;
 use sets::Refusal;
 use sets::Set;
 use sets::Verdict;
@@ -46,52 +41,14 @@ pub enum Found {
     Refused(Refusal),
 }
 
-// Whether a walk is not had: M of a family whose M is not walked.
-fn is_barred(way: Way, set: Set) -> bool
-    ensures { λ r. ⌜ r ≡ barred way (familyOf set) ⌝ }
-{
-    let family = sets::family_of(set);
-    match way {
-        Way::Interleaver => false,
-        Way::Deinterleaver => match family {
-            Family::Carrier => false,
-            Family::Turbo => true,
-        },
-    }
-}
-
-// The walk of an accepted set, by family: 1 where it is not had.
-fn leaf(way: Way, set: Set, cell: usize, out: &mut [u16]) -> Leaf
-    requires { ⌜ Accepted set ⌝ }
-    ensures { λ r. ⌜ WalkLeaf way set cell (now (out .entry)) (now (out .exit)) r ⌝ }
-{
-    let family = sets::family_of(set);
-    match family {
-        Family::Carrier => carriers::walk(way, set, cell, out),
-        Family::Turbo => turbo::walk(way, set, cell, out),
-    }
-}
-
 // The refusal of a walk of a refused set: 1 where the walk is not had, before what the test of the set says.
 fn refused_walk(way: Way, set: Set, x: Refusal) -> Refusal
     ensures { λ r. ⌜ r ≡ cond (barred way (familyOf set)) (refusal set 1) x ⌝ }
 {
-    if is_barred(way, set) {
+    if families::is_barred(way, set) {
         return sets::refusal_of(set, 1);
     }
     x
-}
-
-// One address of an accepted set, by family.
-fn single(way: Way, set: Set, x: usize) -> Single
-    requires { ⌜ Accepted set ⌝ }
-    ensures { λ r. ⌜ SingleOf (set .n) (ruleOf set) (ruleIn way set .l) x r ⌝ }
-{
-    let family = sets::family_of(set);
-    match family {
-        Family::Carrier => carriers::address(way, set, x),
-        Family::Turbo => turbo::address(way, set, x),
-    }
 }
 
 // A walk's answer from its leaf's: the refusal of the number, or the record that goes on.
@@ -99,16 +56,12 @@ fn finish_walk(w: Walk, leaf: Leaf) -> Walked
     requires { ⌜ Fits (w .cell) leaf ⌝ }
     ensures { λ r. ⌜ sayWalked r ≡ carry (refusal (w .set)) (onward w) (sayLeaf leaf) ⌝ }
 {
-    let set = w.set;
-    let cell = w.cell;
     match leaf {
-        Leaf::Stopped(k) => Walked::Refused(sets::refusal_of(set, k)),
+        Leaf::Stopped(k) => Walked::Refused(sets::refusal_of(w.set, k)),
         Leaf::Went { written, cells } => {
             let seen = cells as u32;
-            let next = Walk {
-                set,
-                cell: cell + seen,
-            };
+            let mut next = w;
+            next.cell = w.cell + seen;
             Walked::Done {
                 written: written as u32,
                 next,
@@ -135,12 +88,11 @@ pub fn walk_by(way: Way, w: Walk, out: &mut [u16]) -> Walked
     ensures answer { λ r. ⌜ sayWalked r ≡ walkedOf way w (length (now (out .entry))) ⌝ }
     ensures slice { λ r. ⌜ now (out .exit) ≡ sliceOf way w (now (out .entry)) ⌝ }
 {
-    let set = w.set;
-    let v = sets::test(set);
+    let v = sets::test(w.set);
     match v {
-        Verdict::Refused(x) => Walked::Refused(refused_walk(way, set, x)),
+        Verdict::Refused(x) => Walked::Refused(refused_walk(way, w.set, x)),
         Verdict::Accepted => {
-            let leaf = leaf(way, set, w.cell as usize, out);
+            let leaf = families::walk(way, w.set, w.cell as usize, out);
             finish_walk(w, leaf)
         }
     }
@@ -170,7 +122,7 @@ pub fn address_by(way: Way, set: Set, x: u32) -> Found
     match v {
         Verdict::Refused(x) => Found::Refused(x),
         Verdict::Accepted => {
-            let one = single(way, set, x as usize);
+            let one = families::address(way, set, x as usize);
             finish_one(set, one)
         }
     }

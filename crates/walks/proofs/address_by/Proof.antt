@@ -2,7 +2,7 @@
 use mathlib.Core.Path.{sym, ap, _∙_}
 use Rattle.laws.specs.Leaves.{single-fits}
 use Rattle.sets.specs.Verdict.{sayVerdict}
-use Rattle.walks.specs.Rules.{lawful, lawful-way}
+use Rattle.families.specs.Rules.{lawful, lawful-way}
 use Rattle.walks.specs.Passed.{single-refused, single-answer}
 use borrow.Author.Needs.{needs}
 use Rattle.walks.proofs.address_by.Statement.{statement}
@@ -17,20 +17,20 @@ enum-known-v c = search needs
 enum-told : tie.Need-enum-told
 enum-told c = search needs
 
-single-requires : tie.Need-single-requires
-single-requires c κs = sym (c .before .before .test .ensures) ∙ ap sayVerdict (c .enum-told .given .1)
+address-requires : tie.Need-address-requires
+address-requires c κs = sym (c .before .before .test .ensures) ∙ ap sayVerdict (c .enum-told .given .1)
 
 finish-one-requires : tie.Need-finish-one-requires
 finish-one-requires c κs =
     let e = sym (c .before .before .before .test .ensures) ∙ ap sayVerdict (c .before .enum-told .given .1) in
-    single-fits (lawful _ e) (lawful-way (c .before .before .before .before .args .way) _ e .perm .l-below) _ (c .single .ensures)
+    single-fits (lawful _ e) (lawful-way (c .before .before .before .before .args .way) _ e .perm .l-below) _ (c .address .ensures)
 
 returns : tie.Need-returns
 returns c = single-refused _ _ _ (sym (c .before .before .before .test .ensures) ∙ ap sayVerdict (c .before .v .given .1))
 
 returns-2 : tie.Need-returns-2
 returns-2 c =
-    single-answer _ _ _ (sym (c .before .before .before .before .test .ensures) ∙ ap sayVerdict (c .before .before .enum-told .given .1)) (c .before .single .ensures) (c .finish-one .ensures)
+    single-answer _ _ _ (sym (c .before .before .before .before .test .ensures) ∙ ap sayVerdict (c .before .before .enum-told .given .1)) (c .before .address .ensures) (c .finish-one .ensures)
 
 pub address-by-spec : {M : Type 1} → statement M
 address-by-spec =
@@ -39,7 +39,7 @@ address-by-spec =
     test-requires
     enum-known-v
     enum-told
-    single-requires
+    address-requires
     finish-one-requires
     returns
     returns-2)

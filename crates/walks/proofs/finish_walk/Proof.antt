@@ -21,23 +21,23 @@ enum-known-leaf-2 : tie.Need-enum-known-leaf-2
 enum-known-leaf-2 c = search needs
 
 cast-seen : tie.Need-cast-seen
-cast-seen c = let a = c .before .before .before .before in omega (arith, subst (Fits (a .args .w .cell)) (c .before .leaf2 .given .1) (a .pre) .1)
+cast-seen c = let a = c .before .before .before in omega (arith, subst (Fits (a .args .w .cell)) (c .before .leaf2 .given .1) (a .pre) .1)
 
-add-t12 : tie.Need-add-t12
-add-t12 c = let a = c .before .before .before .before in omega (arith, subst (Fits (a .args .w .cell)) (c .before .leaf2 .given .1) (a .pre) .1)
+add-next : tie.Need-add-next
+add-next c = let a = c .before .before .before .before in omega (arith, subst (Fits (a .args .w .cell)) (c .before .before .leaf2 .given .1) (a .pre) .1)
 
-cast-t12 : tie.Need-cast-t12
-cast-t12 c = let a = c .before .before .before .before in omega (arith, subst (Fits (a .args .w .cell)) (c .before .leaf2 .given .1) (a .pre) .0)
+cast-t10 : tie.Need-cast-t10
+cast-t10 c = let a = c .before .before .before .before in omega (arith, subst (Fits (a .args .w .cell)) (c .before .before .leaf2 .given .1) (a .pre) .0)
 
 returns : tie.Need-returns
 returns c =
-    let w = c .before .before .before .before .before .args .w in
+    let w = c .before .before .before .before .args .w in
     ap refused (c .refusal-of .ensures) ∙ ap (λ (x : Leaf). carry (refusal (w .set)) (onward w) (sayLeaf x)) (sym (c .before .before .leaf .given .1))
 
 returns-2 : tie.Need-returns-2
 returns-2 c =
     let w = c .before .before .before .before .args .w in
-    ap (λ (x : Leaf). carry (refusal (w .set)) (onward w) (sayLeaf x)) (sym (c .before .leaf2 .given .1))
+    ap (λ (x : Leaf). carry (refusal (w .set)) (onward w) (sayLeaf x)) (sym (c .before .before .leaf2 .given .1))
 
 pub finish-walk-spec : {M : Type 1} → statement M
 finish-walk-spec =
@@ -47,7 +47,7 @@ finish-walk-spec =
     refusal-of-requires
     enum-known-leaf-2
     cast-seen
-    add-t12
-    cast-t12
+    add-next
+    cast-t10
     returns
     returns-2)

@@ -1,7 +1,8 @@
 -- `walks::walk_by` meets its contract: a refused set is refused, with 1 where the walk is not had, and else the family's walk is carried on.
 use mathlib.Core.Path.{sym, ap, _∙_}
 use Rattle.sets.specs.Verdict.{sayVerdict}
-use Rattle.walks.specs.Passed.{walk-leaf-fits, refused-answer, refused-slice, leaf-answer, leaf-slice}
+use Rattle.families.specs.Taken.{walk-leaf-fits}
+use Rattle.walks.specs.Passed.{refused-answer, refused-slice, leaf-answer, leaf-slice}
 use borrow.Author.Needs.{needs}
 use Rattle.walks.proofs.walk_by.Statement.{statement}
 use Rattle.walks.proofs.walk_by.Tie as tie
@@ -18,16 +19,18 @@ refused-walk-requires c κs = search needs
 enum-told : tie.Need-enum-told
 enum-told c = search needs
 
-cast-leaf : tie.Need-cast-leaf
-cast-leaf c = search needs
+cast-walk : tie.Need-cast-walk
+cast-walk c = search needs
 
-leaf-requires : tie.Need-leaf-requires
-leaf-requires c κs =
+walk-requires : tie.Need-walk-requires
+walk-requires c κs =
     sym (c .before .before .before .before .test .ensures) ∙ ap sayVerdict (c .before .before .enum-told .given .1)
 
 finish-walk-requires : tie.Need-finish-walk-requires
 finish-walk-requires c κs =
-    walk-leaf-fits (c .before .before .before .before .before .before .before .before .before .before .args .way) (c .before .before .before .before .before .before .before .before .before .before .args .w .set) _ (sym (c .before .before .before .before .before .before .before .test .ensures) ∙ ap sayVerdict (c .before .before .before .before .before .enum-told .given .1)) (c .before .before .leaf .ensures)
+    let t = c .before .before .before .before .before .before .before in
+    let args = t .before .before .args in
+    walk-leaf-fits (args .way) (args .w .set) _ (sym (t .test .ensures) ∙ ap sayVerdict (c .before .before .before .before .before .enum-told .given .1)) (c .before .before .walk .ensures)
 
 returns : tie.Need-returns
 returns c =
@@ -40,7 +43,7 @@ same-length c = search needs
 returns-2 : tie.Need-returns-2
 returns-2 c =
     let e = sym (c .before .before .before .before .before .before .before .before .test .ensures) ∙ ap sayVerdict (c .before .before .before .before .before .before .enum-told .given .1) in
-    (leaf-answer _ _ e (c .before .before .before .leaf .ensures) (c .finish-walk .ensures), leaf-slice _ _ e (c .before .before .before .leaf .ensures))
+    (leaf-answer _ _ e (c .before .before .before .walk .ensures) (c .finish-walk .ensures), leaf-slice _ _ e (c .before .before .before .walk .ensures))
 
 pub walk-by-spec : {M : Type 1} → statement M
 walk-by-spec =
@@ -50,8 +53,8 @@ walk-by-spec =
     enum-known-v
     refused-walk-requires
     enum-told
-    cast-leaf
-    leaf-requires
+    cast-walk
+    walk-requires
     finish-walk-requires
     returns
     same-length

@@ -1,10 +1,10 @@
--- `walks::turbo::walk` is the set's walk for L, the leaf's, at the set's K; the walk for M is not had.
+-- `families::turbo::walk` is the set's walk for L, the leaf's, at the set's K; the walk for M is not had.
 use Rattle.laws.specs.declared.Way.the-variants.{Interleaver, Deinterleaver}
-use Rattle.walks.specs.Passed.{had-leaf, barred-leaf}
-use Rattle.walks.specs.Families.{turbo-sized, turbo-rule, leaf-in, barred-is}
+use Rattle.families.specs.Taken.{had-leaf, barred-leaf}
+use Rattle.families.specs.Families.{turbo-sized, turbo-rule, leaf-in, barred-is}
 use borrow.Author.Needs.{needs}
-use Rattle.walks.proofs.turbo.walk.Statement.{statement}
-use Rattle.walks.proofs.turbo.walk.Tie as tie
+use Rattle.families.proofs.turbo.walk.Statement.{statement}
+use Rattle.families.proofs.turbo.walk.Tie as tie
 
 enum-told : tie.Need-enum-told
 enum-told c = search needs

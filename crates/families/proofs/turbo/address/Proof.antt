@@ -1,9 +1,9 @@
--- `walks::turbo::address` is the set's L or M: the leaf's, at the set's K.
+-- `families::turbo::address` is the set's L or M: the leaf's, at the set's K.
 use Rattle.laws.specs.declared.Way.the-variants.{Interleaver, Deinterleaver}
-use Rattle.walks.specs.Families.{turbo-sized, turbo-rule, single-in}
+use Rattle.families.specs.Families.{turbo-sized, turbo-rule, single-in}
 use borrow.Author.Needs.{needs}
-use Rattle.walks.proofs.turbo.address.Statement.{statement}
-use Rattle.walks.proofs.turbo.address.Tie as tie
+use Rattle.families.proofs.turbo.address.Statement.{statement}
+use Rattle.families.proofs.turbo.address.Tie as tie
 
 enum-told : tie.Need-enum-told
 enum-told c = search needs

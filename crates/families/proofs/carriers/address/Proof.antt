@@ -1,9 +1,9 @@
--- `walks::carriers::address` is the set's L or M: the leaf's, at the set's d, N and s.
+-- `families::carriers::address` is the set's L or M: the leaf's, at the set's d, N and s.
 use Rattle.laws.specs.declared.Way.the-variants.{Interleaver, Deinterleaver}
-use Rattle.walks.specs.Families.{carrier-whole, carrier-rule, single-in}
+use Rattle.families.specs.Families.{carrier-whole, carrier-rule, single-in}
 use borrow.Author.Needs.{needs}
-use Rattle.walks.proofs.carriers.address.Statement.{statement}
-use Rattle.walks.proofs.carriers.address.Tie as tie
+use Rattle.families.proofs.carriers.address.Statement.{statement}
+use Rattle.families.proofs.carriers.address.Tie as tie
 
 rows-of-requires : tie.Need-rows-of-requires
 rows-of-requires c κs = search needs

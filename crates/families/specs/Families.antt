@@ -16,8 +16,8 @@ use Rattle.carrier.specs.Formula.{carrierRule}
 use Rattle.carrier.specs.Block.{Whole}
 use Rattle.wcdma_setup.specs.Rectangle.{Size}
 use Rattle.wcdma.specs.Turbo.{turboRule}
-use Rattle.walks.specs.Rules.{ruleOf, ruleIn, barred, rule-is}
-use Rattle.walks.specs.Passed.{Taken}
+use Rattle.families.specs.Rules.{ruleOf, ruleIn, barred, rule-is}
+use Rattle.families.specs.Taken.{Taken}
 
 module _ {s : Set} (t : Taken s Carrier) {d g : ℕ} (p : d ≡ rowsOf s) (q : g ≡ groupOf s) where
   pub carrier-whole : Whole d (s .n) g

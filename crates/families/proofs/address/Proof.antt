@@ -1,8 +1,8 @@
--- `walks::single` asks the family of the set.
+-- `families::address` asks the family of the set.
 use mathlib.Core.Path.{sym, _∙_}
 use borrow.Author.Needs.{needs}
-use Rattle.walks.proofs.single.Statement.{statement}
-use Rattle.walks.proofs.single.Tie as tie
+use Rattle.families.proofs.address.Statement.{statement}
+use Rattle.families.proofs.address.Tie as tie
 
 family-of-requires : tie.Need-family-of-requires
 family-of-requires c κs = search needs
@@ -27,8 +27,8 @@ returns c = search needs
 returns-2 : tie.Need-returns-2
 returns-2 c = search needs
 
-pub single-spec : {M : Type 1} → statement M
-single-spec =
+pub address-spec : {M : Type 1} → statement M
+address-spec =
     tie.close
     (tie.spec
     family-of-requires

@@ -1,10 +1,10 @@
--- `walks::carriers::walk` is the set's walk: the leaf's, at the set's d, N and s.
+-- `families::carriers::walk` is the set's walk: the leaf's, at the set's d, N and s.
 use Rattle.laws.specs.declared.Way.the-variants.{Interleaver, Deinterleaver}
-use Rattle.walks.specs.Passed.{had-leaf}
-use Rattle.walks.specs.Families.{carrier-whole, carrier-rule, leaf-in, barred-is}
+use Rattle.families.specs.Taken.{had-leaf}
+use Rattle.families.specs.Families.{carrier-whole, carrier-rule, leaf-in, barred-is}
 use borrow.Author.Needs.{needs}
-use Rattle.walks.proofs.carriers.walk.Statement.{statement}
-use Rattle.walks.proofs.carriers.walk.Tie as tie
+use Rattle.families.proofs.carriers.walk.Statement.{statement}
+use Rattle.families.proofs.carriers.walk.Tie as tie
 
 rows-of-requires : tie.Need-rows-of-requires
 rows-of-requires c κs = search needs

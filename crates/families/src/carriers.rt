@@ -5,8 +5,8 @@ use laws::Way;
 use sets::Set;
 ghost use Rattle.laws.specs.Walk.{SingleOf};
 ghost use Rattle.sets.specs.declared.Family.the-variants.{Carrier};
-ghost use Rattle.walks.specs.Rules.{ruleOf, ruleIn};
-ghost use Rattle.walks.specs.Passed.{Taken, WalkLeaf};
+ghost use Rattle.families.specs.Rules.{ruleOf, ruleIn};
+ghost use Rattle.families.specs.Taken.{Taken, WalkLeaf};
 
 pub(super) fn walk(way: Way, set: Set, cell: usize, out: &mut [u16]) -> Leaf
     requires { ⌜ Taken set Carrier ⌝ }

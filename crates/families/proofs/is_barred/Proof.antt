@@ -1,9 +1,9 @@
--- `walks::is_barred` says whether a walk is not had.
+-- `families::is_barred` says whether a walk is not had.
 use mathlib.Core.Path.{sym, ap₂, _∙_}
-use Rattle.walks.specs.Rules.{barred}
+use Rattle.families.specs.Rules.{barred}
 use borrow.Author.Needs.{needs}
-use Rattle.walks.proofs.is_barred.Statement.{statement}
-use Rattle.walks.proofs.is_barred.Tie as tie
+use Rattle.families.proofs.is_barred.Statement.{statement}
+use Rattle.families.proofs.is_barred.Tie as tie
 
 family-of-requires : tie.Need-family-of-requires
 family-of-requires c κs = search needs

@@ -1,8 +1,8 @@
--- `walks::leaf` gives the walk to the family of the set.
+-- `families::walk` gives the walk to the family of the set.
 use mathlib.Core.Path.{sym, _∙_}
 use borrow.Author.Needs.{needs}
-use Rattle.walks.proofs.leaf.Statement.{statement}
-use Rattle.walks.proofs.leaf.Tie as tie
+use Rattle.families.proofs.walk.Statement.{statement}
+use Rattle.families.proofs.walk.Tie as tie
 
 family-of-requires : tie.Need-family-of-requires
 family-of-requires c κs = search needs
@@ -33,8 +33,8 @@ same-length-2 c = search needs
 returns-2 : tie.Need-returns-2
 returns-2 c = search needs
 
-pub leaf-spec : {M : Type 1} → statement M
-leaf-spec =
+pub walk-spec : {M : Type 1} → statement M
+walk-spec =
     tie.close
     (tie.spec
     family-of-requires

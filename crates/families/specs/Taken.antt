@@ -1,0 +1,60 @@
+-- An accepted set of a family, and what the leaf of its walk promises: 1 where the walk is not had, else what the leaf of its rule does.
+use Prim.Native.Nat.{ℕ}
+use mathlib.Core.Bool.{Bool, true, false}
+use mathlib.Core.List.{List, _∷_}
+use mathlib.Core.Path.{_≡_, refl}
+use native.Mathlib.Omega.{arith}
+use lib.ListN.{length}
+use Rattle.laws.specs.declared.Way.{Way}
+use Rattle.laws.specs.Outcome.{done, Line, line, judged, after}
+use Rattle.laws.specs.declared.Leaf.{Leaf}
+use Rattle.laws.specs.declared.Leaf.the-variants.{Went, Stopped}
+use Rattle.laws.specs.Walk.{walkCounts, leafLines, sayLeaf, LeafOf}
+use Rattle.laws.specs.Walk as along
+use Rattle.laws.specs.Leaves.{Fits, leaf-fits}
+use Rattle.sets.specs.declared.Set.{Set}
+use Rattle.sets.specs.declared.Family.{Family}
+use Rattle.sets.specs.Profiles.{familyOf}
+use Rattle.sets.specs.Verdict.{verdictOf}
+use Rattle.families.specs.Rules.{ruleIn, barred, lawful-way}
+
+-- the test of a set accepts it
+abbrev pub Accepted : Set → Type 0
+Accepted s = verdictOf s ≡ done tt
+
+-- and it is of a family
+pub record Taken (s : Set) (family : Family) : Type 0 where
+  pub accepted : Accepted s
+  pub which : familyOf s ≡ family
+
+-- and the walk of a way is had
+pub record Walkable (way : Way) (s : Set) : Type 0 where
+  pub accepted : Accepted s
+  pub had : barred way (familyOf s) ≡ false
+
+-- what the leaf of a walk promises of an accepted set: 1 where the walk is not had, else what its rule's leaf does
+abbrev pub wayLines : Way → Set → ℕ → List Line
+wayLines way s cell = line 1 (barred way (familyOf s)) ∷ leafLines (ruleIn way s) cell
+
+pub record WalkLeaf (way : Way) (s : Set) (cell : ℕ) (old new : List ℕ) (leaf : Leaf) : Type 0 where
+  pub answer : sayLeaf leaf ≡ judged (λ k. k) (wayLines way s cell) (walkCounts (s .n) (ruleIn way s) cell (length old))
+  pub slice : new ≡ after (wayLines way s cell) (along.walkSlice (s .n) (ruleIn way s) cell old) old
+
+module _ (way : Way) (s : Set) {cell : ℕ} {old new : List ℕ} {leaf : Leaf} (o : barred way (familyOf s) ≡ false) where
+  pub had-leaf : LeafOf (s .n) (ruleIn way s) cell old new leaf → WalkLeaf way s cell old new leaf
+  had-leaf l = record { answer = rw o (l .answer); slice = rw o (l .slice) }
+
+  pub leaf-had : WalkLeaf way s cell old new leaf → LeafOf (s .n) (ruleIn way s) cell old new leaf
+  leaf-had l = record { answer = rw o at (l .answer); slice = rw o at (l .slice) }
+
+pub barred-leaf : (way : Way) (s : Set) {cell : ℕ} {old : List ℕ} → barred way (familyOf s) ≡ true → WalkLeaf way s cell old old (Stopped 1)
+barred-leaf way s b = record { answer = rw b; slice = rw b }
+
+-- its numbers fit
+pub walk-leaf-fits : (way : Way) (s : Set) {cell : ℕ} {old new : List ℕ} (leaf : Leaf) → Accepted s → WalkLeaf way s cell old new leaf → Fits cell leaf
+walk-leaf-fits way s (Stopped k) e l = tt
+walk-leaf-fits way s {cell} {old} (Went a c) e l = go (barred way (familyOf s)) refl
+  where
+    go : (b : Bool) → barred way (familyOf s) ≡ b → Fits cell (Went a c)
+    go false o = leaf-fits (lawful-way way s e) (Went a c) (leaf-had way s o l)
+    go true o = let q = rw o at (l .answer) in let z : _≡_ {A = ℕ} 0 1 = cc in absurd (omega arith)

@@ -1,0 +1,54 @@
+// The families: a set's family decides which rule it has, and which leaf is asked for its walk and for one address. A file for each family has
+// its leaves; specs/Rules.antt has its rule. Inner functions: whoever calls them has tested the set.
+ghost use mathlib.Core.Path.{_≡_};
+ghost use Rattle.laws.specs.Walk.{SingleOf};
+ghost use Rattle.sets.specs.Profiles.{familyOf};
+ghost use Rattle.families.specs.Rules.{ruleOf, ruleIn, barred};
+ghost use Rattle.families.specs.Taken.{Accepted, WalkLeaf};
+
+mod carriers; // carriers.rt: the carrier family
+mod turbo; // turbo.rt: the turbo family
+
+use laws::Leaf;
+use laws::Single;
+use laws::Way;
+use sets::Family;
+use sets::Set;
+
+// Whether a walk is not had: M of a family whose M is not walked.
+pub fn is_barred(way: Way, set: Set) -> bool
+    ensures { λ r. ⌜ r ≡ barred way (familyOf set) ⌝ }
+{
+    let family = sets::family_of(set);
+    match way {
+        Way::Interleaver => false,
+        Way::Deinterleaver => match family {
+            Family::Carrier => false,
+            Family::Turbo => true,
+        },
+    }
+}
+
+// The walk of an accepted set, by family: 1 where it is not had.
+pub fn walk(way: Way, set: Set, cell: usize, out: &mut [u16]) -> Leaf
+    requires { ⌜ Accepted set ⌝ }
+    ensures { λ r. ⌜ WalkLeaf way set cell (now (out .entry)) (now (out .exit)) r ⌝ }
+{
+    let family = sets::family_of(set);
+    match family {
+        Family::Carrier => carriers::walk(way, set, cell, out),
+        Family::Turbo => turbo::walk(way, set, cell, out),
+    }
+}
+
+// One address of an accepted set, by family.
+pub fn address(way: Way, set: Set, x: usize) -> Single
+    requires { ⌜ Accepted set ⌝ }
+    ensures { λ r. ⌜ SingleOf (set .n) (ruleOf set) (ruleIn way set .l) x r ⌝ }
+{
+    let family = sets::family_of(set);
+    match family {
+        Family::Carrier => carriers::address(way, set, x),
+        Family::Turbo => turbo::address(way, set, x),
+    }
+}
