@@ -15,21 +15,6 @@ pub extern "C" fn interleaver_dvb_start(store: &mut [u8], fill: u8, phase: &mut 
     flat::started(streams::start(store, fill), phase)
 }
 
-// Feeds the machine of a way.
-fn feed(way: Way, phase: &mut u32, store: &mut [u8], input: &[u8], out: &mut [u8]) -> u32
-    ensures number { λ r. ⌜ r
-        ≡ streamNumberOf (fedOf (streamOf (now (phase .entry))) (now (store .entry)) (now (input .entry)) (now (out .entry))) ⌝ }
-    ensures phase { λ r. ⌜ now (phase .exit)
-        ≡ phaseOut (fedOf (streamOf (now (phase .entry))) (now (store .entry)) (now (input .entry)) (now (out .entry)))
-        (now (phase .entry)) ⌝ }
-    ensures store { λ r. ⌜ now (store .exit)
-        ≡ storeOf way (streamOf (now (phase .entry))) (now (store .entry)) (now (input .entry)) (now (out .entry)) ⌝ }
-    ensures output { λ r. ⌜ now (out .exit)
-        ≡ outputOf way (streamOf (now (phase .entry))) (now (store .entry)) (now (input .entry)) (now (out .entry)) ⌝ }
-{
-    flat::fed(flat::record_of(*phase).feed(way, store, input, out), phase)
-}
-
 // Feeds the interleaver. Refusals 7, 9, 6.
 #[no_mangle]
 pub extern "C" fn interleaver_dvb_interleave(
@@ -48,7 +33,7 @@ pub extern "C" fn interleaver_dvb_interleave(
     ensures output { λ r. ⌜ now (out .exit)
         ≡ outputOf Interleaver (streamOf (now (phase .entry))) (now (store .entry)) (now (input .entry)) (now (out .entry)) ⌝ }
 {
-    feed(Way::Interleaver, phase, store, input, out)
+    lent::dvb::feed(Way::Interleaver, phase, store, input, out)
 }
 
 // Feeds the deinterleaver. Refusals 7, 9, 6.
@@ -69,5 +54,5 @@ pub extern "C" fn interleaver_dvb_deinterleave(
     ensures output { λ r. ⌜ now (out .exit)
         ≡ outputOf Deinterleaver (streamOf (now (phase .entry))) (now (store .entry)) (now (input .entry)) (now (out .entry)) ⌝ }
 {
-    feed(Way::Deinterleaver, phase, store, input, out)
+    lent::dvb::feed(Way::Deinterleaver, phase, store, input, out)
 }

@@ -16,15 +16,6 @@ pub extern "C" fn interleaver_test(set: &[u32; SET]) -> u32
     flat::tested(sets::test(flat::set_of(set)))
 }
 
-// One address of the set that is lent, either way.
-fn find(way: Way, set: &[u32; SET], x: u32, address: &mut u32) -> u32
-    ensures number { λ r. ⌜ r ≡ numberOf (foundOf way (setOf (now (set .entry))) x) ⌝ }
-    ensures address { λ r. ⌜ now (address .exit)
-        ≡ outOf (foundOf way (setOf (now (set .entry))) x) (λ (a : ℕ). a) (now (address .entry)) ⌝ }
-{
-    flat::found(walks::address_by(way, flat::set_of(set), x), address)
-}
-
 // L(t). Refusals 1, 2, 3, 8, 4.
 #[no_mangle]
 pub extern "C" fn interleaver_address_l(set: &[u32; SET], t: u32, address: &mut u32) -> u32
@@ -32,7 +23,7 @@ pub extern "C" fn interleaver_address_l(set: &[u32; SET], t: u32, address: &mut 
     ensures address { λ r. ⌜ now (address .exit)
         ≡ outOf (foundOf Interleaver (setOf (now (set .entry))) t) (λ (a : ℕ). a) (now (address .entry)) ⌝ }
 {
-    find(Way::Interleaver, set, t, address)
+    lent::lists::find(Way::Interleaver, set, t, address)
 }
 
 // M(k). Refusals 1, 2, 3, 8, 4.
@@ -42,37 +33,7 @@ pub extern "C" fn interleaver_address_m(set: &[u32; SET], k: u32, address: &mut 
     ensures address { λ r. ⌜ now (address .exit)
         ≡ outOf (foundOf Deinterleaver (setOf (now (set .entry))) k) (λ (a : ℕ). a) (now (address .entry)) ⌝ }
 {
-    find(Way::Deinterleaver, set, k, address)
-}
-
-// The walk of a way from `cell` on, which moves on.
-fn walk_on(
-    way: Way,
-    set: &[u32; SET],
-    cell: &mut u32,
-    out: &mut [u16],
-    written: &mut u32,
-    cells: &mut u32,
-) -> u32
-    ensures number { λ r. ⌜ r ≡ numberOf (lentWalk way (now (set .entry)) (now (cell .entry)) (now (out .entry))) ⌝ }
-    ensures cell { λ r. ⌜ now (cell .exit)
-        ≡ outOf (lentWalk way (now (set .entry)) (now (cell .entry)) (now (out .entry)))
-        (λ (v : Values). v .next .cell) (now (cell .entry)) ⌝ }
-    ensures slice { λ r. ⌜ now (out .exit)
-        ≡ sliceOf way (walkOf (now (set .entry)) (now (cell .entry))) (now (out .entry)) ⌝ }
-    ensures written { λ r. ⌜ now (written .exit)
-        ≡ outOf (lentWalk way (now (set .entry)) (now (cell .entry)) (now (out .entry)))
-        (λ (v : Values). v .written) (now (written .entry)) ⌝ }
-    ensures cells { λ r. ⌜ now (cells .exit)
-        ≡ outOf (lentWalk way (now (set .entry)) (now (cell .entry)) (now (out .entry)))
-        (λ (v : Values). v .cells) (now (cells .entry)) ⌝ }
-{
-    flat::walked(
-        walks::walk_by(way, flat::walk_of(set, *cell), out),
-        cell,
-        written,
-        cells,
-    )
+    lent::lists::find(Way::Deinterleaver, set, k, address)
 }
 
 // The walk for L. Refusals 1, 2, 3, 8, 9.
@@ -97,7 +58,7 @@ pub extern "C" fn interleaver_walk_l(
         ≡ outOf (lentWalk Interleaver (now (set .entry)) (now (cell .entry)) (now (out .entry)))
         (λ (v : Values). v .cells) (now (cells .entry)) ⌝ }
 {
-    walk_on(Way::Interleaver, set, cell, out, written, cells)
+    lent::lists::walk_on(Way::Interleaver, set, cell, out, written, cells)
 }
 
 // The walk for M. Refusals 1, also for profile 5, 2, 3, 9.
@@ -122,5 +83,5 @@ pub extern "C" fn interleaver_walk_m(
         ≡ outOf (lentWalk Deinterleaver (now (set .entry)) (now (cell .entry)) (now (out .entry)))
         (λ (v : Values). v .cells) (now (cells .entry)) ⌝ }
 {
-    walk_on(Way::Deinterleaver, set, cell, out, written, cells)
+    lent::lists::walk_on(Way::Deinterleaver, set, cell, out, written, cells)
 }

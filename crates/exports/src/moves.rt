@@ -8,15 +8,6 @@ ghost use Rattle.blocks.specs.Answer.{moved};
 ghost use Rattle.symbols.specs.Answer.{movedSymbols};
 ghost use Rattle.flat.specs.Flat.{setOf, lentBlock, lentSymbols, numberOf};
 
-// Moves N bytes, either way.
-fn move_bytes(way: Way, set: &[u32; SET], src: &[u8], dst: &mut [u8]) -> u32
-    ensures number { λ r. ⌜ r ≡ numberOf (lentBlock (now (set .entry)) (now (src .entry)) (now (dst .entry))) ⌝ }
-    ensures output { λ r. ⌜ now (dst .exit)
-        ≡ moved way (setOf (now (set .entry))) 0 (now (src .entry)) (now (dst .entry)) ⌝ }
-{
-    flat::told(blocks::bytes::move_block(way, flat::set_of(set), src, dst))
-}
-
 // Interleaves N bytes.
 #[no_mangle]
 pub extern "C" fn interleaver_interleave_bytes(set: &[u32; SET], src: &[u8], dst: &mut [u8]) -> u32
@@ -24,7 +15,7 @@ pub extern "C" fn interleaver_interleave_bytes(set: &[u32; SET], src: &[u8], dst
     ensures output { λ r. ⌜ now (dst .exit)
         ≡ moved Interleaver (setOf (now (set .entry))) 0 (now (src .entry)) (now (dst .entry)) ⌝ }
 {
-    move_bytes(Way::Interleaver, set, src, dst)
+    lent::moves::move_bytes(Way::Interleaver, set, src, dst)
 }
 
 // Deinterleaves N bytes.
@@ -38,16 +29,7 @@ pub extern "C" fn interleaver_deinterleave_bytes(
     ensures output { λ r. ⌜ now (dst .exit)
         ≡ moved Deinterleaver (setOf (now (set .entry))) 0 (now (src .entry)) (now (dst .entry)) ⌝ }
 {
-    move_bytes(Way::Deinterleaver, set, src, dst)
-}
-
-// Moves N soft values, either way.
-fn move_soft(way: Way, set: &[u32; SET], src: &[f32], dst: &mut [f32]) -> u32
-    ensures number { λ r. ⌜ r ≡ numberOf (lentBlock (now (set .entry)) (now (src .entry)) (now (dst .entry))) ⌝ }
-    ensures output { λ r. ⌜ now (dst .exit)
-        ≡ moved way (setOf (now (set .entry))) nan (now (src .entry)) (now (dst .entry)) ⌝ }
-{
-    flat::told(blocks::soft::move_block(way, flat::set_of(set), src, dst))
+    lent::moves::move_bytes(Way::Deinterleaver, set, src, dst)
 }
 
 // Interleaves N soft values.
@@ -57,7 +39,7 @@ pub extern "C" fn interleaver_interleave_soft(set: &[u32; SET], src: &[f32], dst
     ensures output { λ r. ⌜ now (dst .exit)
         ≡ moved Interleaver (setOf (now (set .entry))) nan (now (src .entry)) (now (dst .entry)) ⌝ }
 {
-    move_soft(Way::Interleaver, set, src, dst)
+    lent::moves::move_soft(Way::Interleaver, set, src, dst)
 }
 
 // Deinterleaves N soft values.
@@ -71,16 +53,7 @@ pub extern "C" fn interleaver_deinterleave_soft(
     ensures output { λ r. ⌜ now (dst .exit)
         ≡ moved Deinterleaver (setOf (now (set .entry))) nan (now (src .entry)) (now (dst .entry)) ⌝ }
 {
-    move_soft(Way::Deinterleaver, set, src, dst)
-}
-
-// Moves N symbols of `width` bytes, either way.
-fn move_symbols(way: Way, set: &[u32; SET], width: u32, src: &[u8], dst: &mut [u8]) -> u32
-    ensures number { λ r. ⌜ r ≡ numberOf (lentSymbols (now (set .entry)) width (now (src .entry)) (now (dst .entry))) ⌝ }
-    ensures output { λ r. ⌜ now (dst .exit)
-        ≡ movedSymbols way (setOf (now (set .entry))) width (now (src .entry)) (now (dst .entry)) ⌝ }
-{
-    flat::told(symbols::move_symbols(way, flat::set_of(set), width, src, dst))
+    lent::moves::move_soft(Way::Deinterleaver, set, src, dst)
 }
 
 // Interleaves N symbols of `width` bytes.
@@ -95,7 +68,7 @@ pub extern "C" fn interleaver_interleave_symbols(
     ensures output { λ r. ⌜ now (dst .exit)
         ≡ movedSymbols Interleaver (setOf (now (set .entry))) width (now (src .entry)) (now (dst .entry)) ⌝ }
 {
-    move_symbols(Way::Interleaver, set, width, src, dst)
+    lent::moves::move_symbols(Way::Interleaver, set, width, src, dst)
 }
 
 // Deinterleaves N symbols of `width` bytes.
@@ -110,5 +83,5 @@ pub extern "C" fn interleaver_deinterleave_symbols(
     ensures output { λ r. ⌜ now (dst .exit)
         ≡ movedSymbols Deinterleaver (setOf (now (set .entry))) width (now (src .entry)) (now (dst .entry)) ⌝ }
 {
-    move_symbols(Way::Deinterleaver, set, width, src, dst)
+    lent::moves::move_symbols(Way::Deinterleaver, set, width, src, dst)
 }

@@ -3,18 +3,15 @@ use Prim.Native.Nat.{ℕ, _+_}
 use mathlib.Core.Bool.{Bool, true, false, cond}
 use mathlib.Core.List.{List, _∷_, _++_}
 use mathlib.Core.Path.{_≡_, refl, sym, ap, _∙_}
-use native.Mathlib.Omega.{arith}
 use lib.ListN.{length}
 use Rattle.laws.specs.declared.Way.{Way}
 use Rattle.laws.specs.Outcome.{Outcome, done, refused, Line, line, first, Ruling, settle, judged, after, done-front, refused-front, kept-front}
 use Rattle.laws.specs.declared.Leaf.{Leaf}
-use Rattle.laws.specs.declared.Leaf.the-variants.{Went, Stopped}
 use Rattle.laws.specs.declared.Single.{Single}
-use Rattle.laws.specs.Walk.{Counts, walkCounts, leafLines, singleLines, sayLeaf, saySingle, LeafOf, SingleOf}
+use Rattle.laws.specs.Walk.{Counts, walkCounts, leafLines, singleLines, sayLeaf, saySingle, SingleOf}
 use Rattle.laws.specs.Walk as along
-use Rattle.laws.specs.Leaves.{Fits, leaf-fits, carry, carry-judged}
+use Rattle.laws.specs.Leaves.{carry, carry-judged}
 use Rattle.sets.specs.declared.Set.{Set}
-use Rattle.sets.specs.declared.Family.{Family}
 use Rattle.sets.specs.declared.Refusal.{Refusal}
 use Rattle.sets.specs.Profiles.{familyOf}
 use Rattle.sets.specs.Verdict.{setLines, refusal, verdictOf}

@@ -59,9 +59,10 @@ fn finish_walk(w: Walk, leaf: Leaf) -> Walked
     match leaf {
         Leaf::Stopped(k) => Walked::Refused(sets::refusal_of(w.set, k)),
         Leaf::Went { written, cells } => {
+            let cell = w.cell;
             let seen = cells as u32;
             let mut next = w;
-            next.cell = w.cell + seen;
+            next.cell = cell + seen;
             Walked::Done {
                 written: written as u32,
                 next,

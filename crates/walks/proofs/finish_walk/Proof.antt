@@ -24,10 +24,10 @@ cast-seen : tie.Need-cast-seen
 cast-seen c = let a = c .before .before .before in omega (arith, subst (Fits (a .args .w .cell)) (c .before .leaf2 .given .1) (a .pre) .1)
 
 add-next : tie.Need-add-next
-add-next c = let a = c .before .before .before .before in omega (arith, subst (Fits (a .args .w .cell)) (c .before .before .leaf2 .given .1) (a .pre) .1)
+add-next c = let a = c .before .before .before in omega (arith, subst (Fits (a .args .w .cell)) (c .before .leaf2 .given .1) (a .pre) .1)
 
-cast-t10 : tie.Need-cast-t10
-cast-t10 c = let a = c .before .before .before .before in omega (arith, subst (Fits (a .args .w .cell)) (c .before .before .leaf2 .given .1) (a .pre) .0)
+cast-t11 : tie.Need-cast-t11
+cast-t11 c = let a = c .before .before .before in omega (arith, subst (Fits (a .args .w .cell)) (c .before .leaf2 .given .1) (a .pre) .0)
 
 returns : tie.Need-returns
 returns c =
@@ -36,8 +36,8 @@ returns c =
 
 returns-2 : tie.Need-returns-2
 returns-2 c =
-    let w = c .before .before .before .before .args .w in
-    ap (λ (x : Leaf). carry (refusal (w .set)) (onward w) (sayLeaf x)) (sym (c .before .before .leaf2 .given .1))
+    let w = c .before .before .before .args .w in
+    ap (λ (x : Leaf). carry (refusal (w .set)) (onward w) (sayLeaf x)) (sym (c .before .leaf2 .given .1))
 
 pub finish-walk-spec : {M : Type 1} → statement M
 finish-walk-spec =
@@ -48,6 +48,6 @@ finish-walk-spec =
     enum-known-leaf-2
     cast-seen
     add-next
-    cast-t10
+    cast-t11
     returns
     returns-2)

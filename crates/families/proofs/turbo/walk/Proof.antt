@@ -1,5 +1,5 @@
 -- `families::turbo::walk` is the set's walk for L, the leaf's, at the set's K; the walk for M is not had.
-use Rattle.laws.specs.declared.Way.the-variants.{Interleaver, Deinterleaver}
+use Rattle.laws.specs.declared.Way.the-variants.{Interleaver}
 use Rattle.families.specs.Taken.{had-leaf, barred-leaf}
 use Rattle.families.specs.Families.{turbo-sized, turbo-rule, leaf-in, barred-is}
 use borrow.Author.Needs.{needs}

@@ -1,0 +1,123 @@
+// The second computation: whole lists from document 01's formulas, with a division at each address. It knows nothing of the walk, and promises
+// nothing: a program holds the proved lists against it.
+pub mod num; // num.rt: arithmetic that never fails
+mod primes; // primes.rt: primes, the least primitive root, the next q
+mod turbo; // turbo.rt: the rectangle of profile 5
+
+use crate::num::minus;
+use crate::num::over;
+use crate::num::plus;
+use crate::num::put;
+use crate::num::rest;
+use crate::num::times;
+use laws::Way;
+use sets::Set;
+
+// A list stands at 0 of the lent slice, and from ENDS on, for each address, the cell that follows it.
+pub const ENDS: usize = 6000;
+
+// A list as it was computed: its set, how many addresses and cells it has, and how many of the cells are padding.
+pub struct Whole {
+    pub set: Set,
+    pub addresses: usize,
+    pub cells: usize,
+    pub padding: usize,
+}
+
+fn rows(profile: u32) -> usize {
+    if profile == 1 { 12 } else { 16 }
+}
+
+fn group(bits: u32) -> usize {
+    if bits == 6 {
+        return 3;
+    }
+    if bits == 4 {
+        return 2;
+    }
+    1
+}
+
+// m = s·(t/s) + (t + d·t/N) mod s, then L(t) = d·m - (N - 1)·(d·m/N).
+fn carrier_l(d: usize, n: usize, s: usize, t: usize) -> usize {
+    let turn = over(times(d, t), n);
+    let m = plus(times(s, over(t, s)), rest(plus(t, turn), s));
+    let dm = times(d, m);
+    minus(dm, times(minus(n, 1), over(dm, n)))
+}
+
+// m = (N/d)·(k mod d) + k/d, then M(k) = s·(m/s) + (m + N - d·m/N) mod s.
+fn carrier_m(d: usize, n: usize, s: usize, k: usize) -> usize {
+    let m = plus(times(over(n, d), rest(k, d)), over(k, d));
+    let turn = over(times(d, m), n);
+    plus(times(s, over(m, s)), rest(minus(plus(m, n), turn), s))
+}
+
+fn carrier(way: Way, set: Set, t: usize) -> usize {
+    let d = rows(set.profile);
+    let s = group(set.bits);
+    let n = set.n as usize;
+    match way {
+        Way::Interleaver => carrier_l(d, n, s, t),
+        Way::Deinterleaver => carrier_m(d, n, s, t),
+    }
+}
+
+// L or M of a carrier set.
+fn carrier_list(way: Way, set: Set, list: &mut [u16]) -> Whole {
+    let n = set.n as usize;
+    let mut t = 0;
+    while t < n {
+        put(list, t, carrier(way, set, t));
+        put(list, plus(ENDS, t), plus(t, 1));
+        t += 1;
+    }
+    Whole {
+        set,
+        addresses: n,
+        cells: n,
+        padding: 0,
+    }
+}
+
+// An address that is not padding is kept; gives how many are kept then.
+fn keep(k: usize, a: usize, cell: usize, kept: usize, list: &mut [u16]) -> usize {
+    if k <= a {
+        return kept;
+    }
+    put(list, kept, a);
+    put(list, plus(ENDS, kept), plus(cell, 1));
+    plus(kept, 1)
+}
+
+// L of a set of profile 5, cell by cell.
+fn turbo_cells(set: Set, table: &mut [u16], list: &mut [u16]) -> Whole {
+    let k = set.n as usize;
+    let grid = turbo::plan(k, table);
+    let cells = times(grid.r, grid.c);
+    let mut kept = 0;
+    let mut cell = 0;
+    while cell < cells {
+        kept = keep(k, turbo::address(grid, table, cell), cell, kept, list);
+        cell += 1;
+    }
+    Whole {
+        set,
+        addresses: kept,
+        cells,
+        padding: minus(cells, kept),
+    }
+}
+
+fn turbo_list(set: Set, list: &mut [u16]) -> Whole {
+    let mut table = [0u16; 400];
+    turbo_cells(set, &mut table, list)
+}
+
+// The whole list of an accepted set.
+pub fn list_of(way: Way, set: Set, list: &mut [u16]) -> Whole {
+    if set.profile == 5 {
+        return turbo_list(set, list);
+    }
+    carrier_list(way, set, list)
+}
