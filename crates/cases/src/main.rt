@@ -16,16 +16,19 @@ fn new_set(profile: u32, bits: u32, n: u32) -> Set {
     Set { profile, bits, n }
 }
 
+fn tell_verdict(v: Verdict) {
+    match v {
+        Verdict::Accepted => words::text(b": accepted"),
+        Verdict::Refused(x) => words::refused(x),
+    }
+}
+
 // The test of a set.
 fn test(profile: u32, bits: u32, n: u32) {
     let set = new_set(profile, bits, n);
     words::text(b"test");
     words::set(set);
-    let v = sets::test(set);
-    match v {
-        Verdict::Accepted => words::text(b": accepted"),
-        Verdict::Refused(x) => words::refused(x),
-    }
+    tell_verdict(sets::test(set));
     words::text(b"\n");
 }
 
@@ -43,7 +46,15 @@ fn tests() {
     test(6, 1, 48);
 }
 
-fn tell_walk(r: Walked, slots: &[u16]) {
+fn tell_written(slots: &[u16], written: u32) {
+    if written == 0 {
+        return;
+    }
+    words::text(b", addresses");
+    words::addresses(slots, written);
+}
+
+fn tell_walked(r: Walked, slots: &[u16]) {
     match r {
         Walked::Refused(x) => words::refused(x),
         Walked::Done {
@@ -54,13 +65,9 @@ fn tell_walk(r: Walked, slots: &[u16]) {
             words::number(b": done, written ", written as u64);
             words::number(b", next ", next.cell as u64);
             words::number(b", cells ", cells as u64);
-            if 0 < written {
-                words::text(b", addresses");
-            }
-            words::addresses(slots, written);
+            tell_written(slots, written);
         }
     }
-    words::last(b"; slots kept ", looks::kept(slots));
 }
 
 // A walk into marked slots.
@@ -70,7 +77,8 @@ fn show_walk(way: Way, set: Set, cell: u32, slots: &mut [u16]) {
     words::number(b" from cell ", cell as u64);
     words::number(b" room ", slots.len() as u64);
     let r = walks::walk_by(way, Walk { set, cell }, slots);
-    tell_walk(r, slots);
+    tell_walked(r, slots);
+    words::last(b"; slots kept ", looks::kept(slots));
 }
 
 fn walk_none(set: Set, cell: u32) {
@@ -98,16 +106,19 @@ fn show_walks() {
     walk_five(Way::Interleaver, new_set(3, 4, 96), 193);
 }
 
+fn tell_found(f: Found) {
+    match f {
+        Found::At(a) => words::number(b": ", a as u64),
+        Found::Refused(x) => words::refused(x),
+    }
+}
+
 // One address.
 fn show_one(way: Way, set: Set, i: u32) {
     words::either(way, b"L,", b"M,");
     words::set(set);
     words::number(b" of ", i as u64);
-    let f = walks::address_by(way, set, i);
-    match f {
-        Found::At(a) => words::number(b": ", a as u64),
-        Found::Refused(x) => words::refused(x),
-    }
+    tell_found(walks::address_by(way, set, i));
     words::text(b"\n");
 }
 

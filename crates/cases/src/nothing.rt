@@ -21,9 +21,7 @@ fn record(a: Fed) -> Stream {
     }
 }
 
-fn tell_fed(way: Way, a: Fed, s: Stream, bytes: u64, changed: u64) {
-    super::words::either(way, b"interleaver", b"deinterleaver");
-    super::words::text(b", feed of nothing into nothing");
+fn tell_next(a: Fed, s: Stream) {
     match a {
         Fed::Refused(k) => super::words::number(b": refused ", k as u64),
         Fed::Next(next) => {
@@ -31,6 +29,12 @@ fn tell_fed(way: Way, a: Fed, s: Stream, bytes: u64, changed: u64) {
             super::words::number(b" moved to ", next.phase as u64);
         }
     }
+}
+
+fn tell_fed(way: Way, a: Fed, s: Stream, bytes: u64, changed: u64) {
+    super::words::either(way, b"interleaver", b"deinterleaver");
+    super::words::text(b", feed of nothing into nothing");
+    tell_next(a, s);
     super::words::number(b", ", bytes);
     super::words::last(b" bytes; store bytes changed ", changed);
 }

@@ -89,6 +89,10 @@ fn refused(m: Moved) -> u64 {
     }
 }
 
+fn one_if(b: bool) -> u64 {
+    if b { 1 } else { 0 }
+}
+
 // A block there and back.
 fn block(
     set: Set,
@@ -105,7 +109,7 @@ fn block(
     let second = refused(blocks::bytes::deinterleave(set, dst, again));
     let wrong = wrong_block(list, src, dst, again);
     Count {
-        sets: if high { 0 } else { 1 },
+        sets: one_if(!high),
         calls: 2,
         addresses: dst.len() as u64,
         cells: 0,
@@ -157,7 +161,7 @@ fn single(set: Set, list: &[u16], i: usize) -> Count {
     let there = found(walks::address_l(set, short(t)));
     let back = found(walks::address_m(set, short(a)));
     Count {
-        sets: if i == 0 { 1 } else { 0 },
+        sets: one_if(i == 0),
         calls: 2,
         addresses: 2,
         cells: 0,

@@ -28,6 +28,15 @@ fn one_if(a: u32, b: u32) -> u64 {
     if a == b { 1 } else { 0 }
 }
 
+fn one_unless(known: u64) -> u64 {
+    if known == 0 { 1 } else { 0 }
+}
+
+// The bytes that a call took: none where it was refused.
+fn taken(refusal: u32, bytes: u64) -> u64 {
+    if refusal == 0 { bytes } else { 0 }
+}
+
 impl Tally {
     fn none() -> Self {
         Tally {
@@ -52,8 +61,8 @@ impl Tally {
             seven: plus(self.seven, seven),
             nine: plus(self.nine, nine),
             six: plus(self.six, six),
-            other: plus(self.other, if known == 0 { 1 } else { 0 }),
-            bytes: plus(self.bytes, if refusal == 0 { bytes } else { 0 }),
+            other: plus(self.other, one_unless(known)),
+            bytes: plus(self.bytes, taken(refusal, bytes)),
         }
     }
 }
@@ -180,12 +189,15 @@ fn number(text: &[u8], n: u64) {
     io::print_decimal(STDOUT_FILENO, n);
 }
 
-fn report(way: Way, t: Tally, checksum: u64, differences: u64) {
+fn name(way: Way) {
     match way {
         Way::Interleaver => io::write_all(STDOUT_FILENO, b"interleaver"),
         Way::Deinterleaver => io::write_all(STDOUT_FILENO, b"deinterleaver"),
-    }
-    ;
+    };
+}
+
+fn report(way: Way, t: Tally, checksum: u64, differences: u64) {
+    name(way);
     number(b" calls ", t.calls);
     number(b" refused 7 ", t.seven);
     number(b" 9 ", t.nine);
@@ -197,15 +209,19 @@ fn report(way: Way, t: Tally, checksum: u64, differences: u64) {
     io::write_all(STDOUT_FILENO, b"\n");
 }
 
+// The number of a machine's first call: each is cut in its own way.
+fn first_call(way: Way) -> usize {
+    match way {
+        Way::Interleaver => 0,
+        Way::Deinterleaver => 23,
+    }
+}
+
 // One machine, in a store of its own, from the phase; what comes out is compared with what the first input makes due.
 fn machine(way: Way, phase: u32, f: u8, first: &[u8], input: &[u8], out: &mut [u8]) {
     let mut store = [0u8; 1122];
     let s = begin(&mut store, f, phase);
-    let from = match way {
-        Way::Interleaver => 0,
-        Way::Deinterleaver => 23,
-    };
-    let tally = run(way, from, s, &mut store, input, out);
+    let tally = run(way, first_call(way), s, &mut store, input, out);
     report(
         way,
         tally,
