@@ -8,12 +8,12 @@ use lib.ListN.{getD, set}
 use borrow.Author.Tests.{lt-ltb, le-ltb}
 use Rattle.laws.specs.Once.{inside}
 use Rattle.laws.specs.Written.{Written, put-as, skipped}
-use Rattle.wcdma_setup.specs.declared.Shape.{Shape}
-use Rattle.wcdma_setup.specs.Rectangle.{rows, prime, cols, cells}
-use Rattle.wcdma_setup.specs.Powers.{power, root}
+use Rattle.wcdma_shape.specs.declared.Shape.{Shape}
+use Rattle.wcdma_shape.specs.Rectangle.{rows, prime, cols, cells}
+use Rattle.wcdma_shape.specs.Powers.{power, root}
 use Rattle.wcdma_setup.specs.Numbers.{qOf}
-use Rattle.wcdma_setup.specs.Orders.{rowAt}
-use Rattle.wcdma_setup.specs.Shape.{rows-pos, rows-le, prime-big, prime-small}
+use Rattle.wcdma_shape.specs.Orders.{rowAt}
+use Rattle.wcdma_shape.specs.Shape.{rows-pos, rows-le, prime-big, prime-small}
 use Rattle.wcdma.specs.Turbo.{entry, address}
 use Rattle.wcdma_cells.specs.Post.{entryAt, CellIn, Goes}
 use Rattle.wcdma_cells.proofs.Place.{Place, place-address, place-column, exponent, exponent-lt, raised, entry-short}

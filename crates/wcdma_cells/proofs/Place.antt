@@ -11,11 +11,11 @@ use lib.Dec.{ltb, eqb}
 use lib.ListN.{getD, set, length-set}
 use lib.Seq.{getD-set-same, getD-set-other}
 use borrow.Author.Tests.{lt-ltb, le-ltb, ltb-true, ltb-false, eqb-true}
-use Rattle.wcdma_setup.specs.Rectangle.{rows, prime, cols, cells}
-use Rattle.wcdma_setup.specs.Powers.{root}
+use Rattle.wcdma_shape.specs.Rectangle.{rows, prime, cols, cells}
+use Rattle.wcdma_shape.specs.Powers.{root}
 use Rattle.wcdma_setup.specs.Numbers.{qOf}
-use Rattle.wcdma_setup.specs.Orders.{rowAt}
-use Rattle.wcdma_setup.specs.Shape.{rows-pos, rows-le, prime-big}
+use Rattle.wcdma_shape.specs.Orders.{rowAt}
+use Rattle.wcdma_shape.specs.Shape.{rows-pos, rows-le, prime-big}
 use Rattle.wcdma_setup.specs.Post.{shortBy}
 use Rattle.wcdma.specs.Turbo.{entry, entryWith, address}
 use Rattle.wcdma.specs.Law.{col-lt}

@@ -10,10 +10,11 @@ use Rattle.laws.specs.Written.{Written}
 use Rattle.laws.specs.declared.Leaf.{Leaf}
 use Rattle.laws.specs.declared.Leaf.the-variants.{Went}
 use Rattle.laws.specs.Walk.{walkList, walkCells, walkSlice}
-use Rattle.wcdma_setup.specs.declared.Shape.{Shape}
-use Rattle.wcdma_setup.specs.Rectangle.{rows, prime, cols, cells}
-use Rattle.wcdma_setup.specs.Powers.{power, root}
-use Rattle.wcdma_setup.specs.Post.{ShapeOf, shortBy}
+use Rattle.wcdma_shape.specs.declared.Shape.{Shape}
+use Rattle.wcdma_shape.specs.Rectangle.{rows, prime, cols, cells}
+use Rattle.wcdma_shape.specs.Powers.{power, root}
+use Rattle.wcdma_shape.specs.Post.{ShapeOf}
+use Rattle.wcdma_setup.specs.Post.{shortBy}
 use Rattle.wcdma.specs.Turbo.{address, turboRule}
 use Rattle.wcdma_rows.specs.Post.{Exponents, Rows}
 

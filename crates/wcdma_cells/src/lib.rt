@@ -1,6 +1,6 @@
 // The walk over the cells: additions, comparisons and table reads.
 use laws::Leaf;
-use wcdma_setup::Shape;
+use wcdma_shape::Shape;
 ghost use mathlib.Core.Path.{_≡_};
 ghost use Prim.Native.Nat.{_+_, _-_, _%_, _<_, _≤_};
 ghost use Rattle.wcdma_cells.specs.Post.{entryAt, CellIn, CellOf, ColumnIn, ColumnOf, FillIn, WentOf};

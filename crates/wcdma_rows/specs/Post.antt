@@ -5,11 +5,11 @@ use mathlib.Core.List.{List}
 use mathlib.Core.Path.{_≡_}
 use lib.Dec.{ltb}
 use lib.ListN.{getD, length}
-use Rattle.wcdma_setup.specs.declared.Shape.{Shape}
-use Rattle.wcdma_setup.specs.Rectangle.{rows, prime, cols}
+use Rattle.wcdma_shape.specs.declared.Shape.{Shape}
+use Rattle.wcdma_shape.specs.Rectangle.{rows, prime, cols}
 use Rattle.wcdma_setup.specs.Numbers.{qOf}
-use Rattle.wcdma_setup.specs.Orders.{rowAt}
-use Rattle.wcdma_setup.specs.Post.{ShapeOf}
+use Rattle.wcdma_shape.specs.Orders.{rowAt}
+use Rattle.wcdma_shape.specs.Post.{ShapeOf}
 
 -- the column that comes next in row x, where the walk stands at row i of column j
 abbrev pub nextCol : ℕ → ℕ → ℕ → ℕ

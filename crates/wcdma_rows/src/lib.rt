@@ -1,5 +1,5 @@
 // The rows of the rectangle, laid out for a walk. This divides; a walk pays it once.
-use wcdma_setup::Shape;
+use wcdma_shape::Shape;
 ghost use mathlib.Core.Path.{_≡_};
 ghost use Prim.Native.Nat.{_*_, _%_, _<_, _≤_};
 ghost use Rattle.wcdma_rows.specs.Post.{nextCol, Exponents, Rows, LayIn};
@@ -39,10 +39,10 @@ pub fn lay_out(
     let r = shape.r;
     let c = shape.c;
     let m = (shape.p - 1) as u32;
-    let order = wcdma_setup::order_of(k);
+    let order = wcdma_shape::order_of(k);
     let mut x = 0;
     while x < r {
-        let t = wcdma_setup::row_at(k, r, &order, x);
+        let t = wcdma_shape::row_at(k, r, &order, x);
         let step = q[x] % m;
         base[x] = t * c;
         fall[x] = wide32(m - step);

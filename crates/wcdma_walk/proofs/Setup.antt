@@ -12,13 +12,14 @@ use Rattle.laws.specs.declared.Leaf.{Leaf}
 use Rattle.laws.specs.declared.Single.the-variants.{Barred}
 use Rattle.laws.specs.Walk.{walkSlice, LeafOf, SingleOf, table-is}
 use Rattle.laws.specs.Leaves.{WentWell, leaf-went, single-fails}
-use Rattle.wcdma_setup.specs.declared.Shape.{Shape}
-use Rattle.wcdma_setup.specs.Rectangle.{Size, rows, prime, cols, cells}
-use Rattle.wcdma_setup.specs.Powers.{power, root}
+use Rattle.wcdma_shape.specs.declared.Shape.{Shape}
+use Rattle.wcdma_shape.specs.Rectangle.{Size, rows, prime, cols, cells}
+use Rattle.wcdma_shape.specs.Powers.{power, root}
 use Rattle.wcdma_setup.specs.Numbers.{qOf, allFound, searchFails}
-use Rattle.wcdma_setup.specs.Shape.{rows-pos, cols-high, prime-small}
-use Rattle.wcdma_setup.specs.Roots.{prime-root, power-pos}
-use Rattle.wcdma_setup.specs.Post.{ShapeOf, NumbersOf, shortBy}
+use Rattle.wcdma_shape.specs.Shape.{rows-pos, cols-high, prime-small}
+use Rattle.wcdma_shape.specs.Roots.{prime-root, power-pos}
+use Rattle.wcdma_shape.specs.Post.{ShapeOf}
+use Rattle.wcdma_setup.specs.Post.{NumbersOf, shortBy}
 use Rattle.wcdma.specs.Turbo.{addresses, turboL, turboRule}
 use Rattle.wcdma.specs.Law.{as-many, turbo-lawful}
 use Rattle.wcdma.specs.Walks.{walk-whole}

@@ -4,10 +4,10 @@ use mathlib.Core.Bool.{Bool, true, not}
 use mathlib.Core.List.{List}
 use mathlib.Core.Path.{_≡_}
 use lib.ListN.{length}
-use Rattle.wcdma_setup.specs.declared.Shape.{Shape}
-use Rattle.wcdma_setup.specs.Rectangle.{cells}
+use Rattle.wcdma_shape.specs.declared.Shape.{Shape}
+use Rattle.wcdma_shape.specs.Rectangle.{cells}
 use Rattle.wcdma_setup.specs.Numbers.{searchFails}
-use Rattle.wcdma_setup.specs.Post.{ShapeOf}
+use Rattle.wcdma_shape.specs.Post.{ShapeOf}
 use Rattle.wcdma_rows.specs.Post.{NumbersAre}
 
 -- the search for q: whether it succeeds, and then the numbers

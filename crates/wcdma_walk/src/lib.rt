@@ -2,11 +2,11 @@
 // compares and reads tables.
 use laws::Leaf;
 use laws::Single;
-use wcdma_setup::Shape;
+use wcdma_shape::Shape;
 ghost use mathlib.Core.Path.{_≡_};
 ghost use Rattle.laws.specs.Position.{position};
 ghost use Rattle.laws.specs.Walk.{LeafOf, SingleOf};
-ghost use Rattle.wcdma_setup.specs.Rectangle.{Size};
+ghost use Rattle.wcdma_shape.specs.Rectangle.{Size};
 ghost use Rattle.wcdma.specs.Turbo.{turboL, turboM, turboRule};
 ghost use Rattle.wcdma_cells.specs.Post.{WentOf};
 ghost use Rattle.wcdma_walk.specs.Post.{SearchIn, SearchOf, ByIn};
@@ -45,7 +45,7 @@ pub fn walk(k: usize, cell: usize, out: &mut [u16]) -> Leaf
     requires { ⌜ Size k ⌝ }
     ensures { λ r. ⌜ LeafOf k (turboRule k) cell (now (out .entry)) (now (out .exit)) r ⌝ }
 {
-    let shape = wcdma_setup::shape_of(k);
+    let shape = wcdma_shape::shape_of(k);
     let mut q = [0u32; 20];
     if !search(shape, &mut q) {
         return Leaf::Stopped(8);

@@ -11,8 +11,8 @@ use Rattle.laws.specs.Members.{both}
 use Rattle.laws.specs.Written.{Written, begun, ended}
 use Rattle.laws.specs.declared.Leaf.the-variants.{Went}
 use Rattle.laws.specs.Walk.{walkCells, walkList, walkSlice}
-use Rattle.wcdma_setup.specs.Rectangle.{cells, cols}
-use Rattle.wcdma_setup.specs.Shape.{cells-le, cols-high, prime-small, product-small, rows-le, rows-pos}
+use Rattle.wcdma_shape.specs.Rectangle.{cells, cols}
+use Rattle.wcdma_shape.specs.Shape.{cells-le, cols-high, prime-small, product-small, rows-le, rows-pos}
 use Rattle.wcdma_cells.proofs.Cell.{cell-on, column-fits, column-on, place-on}
 use Rattle.wcdma_cells.proofs.Place.{Place, column-le, exponents-to, exponents-top, place-column, place-down, place-over}
 use Rattle.wcdma_rows.specs.Post.{Exponents}

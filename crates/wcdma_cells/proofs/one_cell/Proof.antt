@@ -4,8 +4,8 @@ use borrow.Author.Needs.{needs}
 use lib.ListN.{getD, length-set, set}
 use mathlib.Core.Path.{_≡_, refl}
 use native.Mathlib.Omega.{arith}
-use Rattle.wcdma_setup.specs.Rectangle.{rows}
-use Rattle.wcdma_setup.specs.Shape.{cells-le}
+use Rattle.wcdma_shape.specs.Rectangle.{rows}
+use Rattle.wcdma_shape.specs.Shape.{cells-le}
 use Rattle.wcdma_cells.proofs.Cell.{address-is, exponent-in, cell-inside, exponent-small, goes-put, goes-skip, prime-pos, raised-is, row-small}
 use Rattle.wcdma_cells.proofs.Place.{exponents-down}
 use Rattle.wcdma.specs.Law.{address-lt}

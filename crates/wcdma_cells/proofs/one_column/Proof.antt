@@ -4,8 +4,8 @@ use lib.ListN.{length}
 use mathlib.Core.Path.{_∙_, _≡_, refl, sym}
 use native.Mathlib.Nat.{add-assoc, add-zero}
 use native.Mathlib.Omega.{arith}
-use Rattle.wcdma_setup.specs.Rectangle.{rows}
-use Rattle.wcdma_setup.specs.Shape.{rows-le}
+use Rattle.wcdma_shape.specs.Rectangle.{rows}
+use Rattle.wcdma_shape.specs.Shape.{rows-le}
 use Rattle.wcdma_cells.proofs.Place.{exponents-top}
 use Rattle.wcdma_rows.specs.Post.{Exponents}
 use Rattle.wcdma_cells.specs.Post.{Goes}

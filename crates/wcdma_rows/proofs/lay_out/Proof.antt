@@ -8,9 +8,9 @@ use native.Mathlib.Nat.{le-of-lt, mod-lt}
 use native.Mathlib.Omega.{arith}
 use Rattle.laws.specs.Entries.{fill-more}
 use Rattle.wcdma_setup.specs.Numbers.{qOf}
-use Rattle.wcdma_setup.specs.Orders.{rowAt}
-use Rattle.wcdma_setup.specs.Rectangle.{cols, prime, rows}
-use Rattle.wcdma_setup.specs.Shape.{cols-high, prime-big, prime-small, product-small, rows-le}
+use Rattle.wcdma_shape.specs.Orders.{rowAt}
+use Rattle.wcdma_shape.specs.Rectangle.{cols, prime, rows}
+use Rattle.wcdma_shape.specs.Shape.{cols-high, prime-big, prime-small, product-small, rows-le}
 use Rattle.wcdma_rows.proofs.Laid.{fall-is, start-is}
 use Rattle.wcdma.specs.Law.{row-lt}
 use Rattle.wcdma_rows.specs.Post.{LayIn, nextCol}

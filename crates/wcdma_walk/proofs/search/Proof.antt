@@ -1,6 +1,6 @@
 -- `search` finds the numbers q of a shape.
 use native.Mathlib.Omega.{arith}
-use Rattle.wcdma_setup.specs.Shape.{prime-big, prime-small, rows-le, rows-pos}
+use Rattle.wcdma_shape.specs.Shape.{prime-big, prime-small, rows-le, rows-pos}
 use Rattle.wcdma_walk.proofs.Setup.{searched}
 use Rattle.wcdma_walk.proofs.search.Statement.{statement}
 use Rattle.wcdma_walk.proofs.search.Tie as tie

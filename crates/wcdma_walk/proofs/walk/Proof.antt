@@ -6,9 +6,9 @@ use mathlib.Core.Bool.{not}
 use mathlib.Core.Path.{_≡_, _∙_, ap, sym}
 use native.Mathlib.Omega.{arith}
 use Rattle.laws.specs.Leaves.{leaf-fails, leaf-past}
-use Rattle.wcdma_setup.specs.Rectangle.{cells}
+use Rattle.wcdma_shape.specs.Rectangle.{cells}
 use Rattle.wcdma_setup.specs.Numbers.{searchFails}
-use Rattle.wcdma_setup.specs.Shape.{cells-le}
+use Rattle.wcdma_shape.specs.Shape.{cells-le}
 use Rattle.wcdma_walk.proofs.Setup.{shape-total, went-says}
 use Rattle.wcdma_walk.proofs.walk.Statement.{statement}
 use Rattle.wcdma_walk.proofs.walk.Tie as tie

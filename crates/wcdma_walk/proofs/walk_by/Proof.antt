@@ -2,9 +2,9 @@
 use borrow.Author.Needs.{needs}
 use mathlib.Core.Path.{_∙_, ap, refl}
 use native.Mathlib.Omega.{arith}
-use Rattle.wcdma_setup.specs.Powers.{isTableRoot}
-use Rattle.wcdma_setup.specs.Roots.{prime-root}
-use Rattle.wcdma_setup.specs.Shape.{prime-big, prime-small}
+use Rattle.wcdma_shape.specs.Powers.{isTableRoot}
+use Rattle.wcdma_shape.specs.Roots.{prime-root}
+use Rattle.wcdma_shape.specs.Shape.{prime-big, prime-small}
 use Rattle.wcdma_walk.proofs.Setup.{column-small, fill-in, power-some, rows-some, short-le}
 use Rattle.wcdma_walk.proofs.walk_by.Statement.{statement}
 use Rattle.wcdma_walk.proofs.walk_by.Tie as tie
