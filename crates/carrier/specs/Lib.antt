@@ -2,8 +2,3 @@ pub mod Formula
 pub mod Steps
 pub mod Once
 pub mod Block
-pub mod Row
-pub mod Along
-pub mod Straight
-pub mod Column
-pub mod Down

@@ -14,7 +14,7 @@ use Rattle.sets.specs.Profiles.{rowsOf, groupOf}
 use Rattle.sets.specs.Carried.{carried, turbo-size}
 use Rattle.carrier.specs.Formula.{carrierRule}
 use Rattle.carrier.specs.Block.{Whole}
-use Rattle.wcdma_setup.specs.Rectangle.{Size}
+use Rattle.wcdma_shape.specs.Rectangle.{Size}
 use Rattle.wcdma.specs.Turbo.{turboRule}
 use Rattle.families.specs.Rules.{ruleOf, ruleIn, barred, rule-is}
 use Rattle.families.specs.Taken.{Taken}

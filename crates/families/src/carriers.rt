@@ -15,8 +15,8 @@ pub(super) fn walk(way: Way, set: Set, cell: usize, out: &mut [u16]) -> Leaf
     let d = sets::rows_of(set) as usize;
     let s = sets::group_of(set) as usize;
     match way {
-        Way::Interleaver => carrier::row::walk(d, set.n as usize, s, cell, out),
-        Way::Deinterleaver => carrier::column::walk(d, set.n as usize, s, cell, out),
+        Way::Interleaver => carrier_rows::walk(d, set.n as usize, s, cell, out),
+        Way::Deinterleaver => carrier_columns::walk(d, set.n as usize, s, cell, out),
     }
 }
 
@@ -27,7 +27,7 @@ pub(super) fn address(way: Way, set: Set, x: usize) -> Single
     let d = sets::rows_of(set) as usize;
     let s = sets::group_of(set) as usize;
     match way {
-        Way::Interleaver => carrier::row::one(d, set.n as usize, s, x),
-        Way::Deinterleaver => carrier::column::one(d, set.n as usize, s, x),
+        Way::Interleaver => carrier_rows::one(d, set.n as usize, s, x),
+        Way::Deinterleaver => carrier_columns::one(d, set.n as usize, s, x),
     }
 }

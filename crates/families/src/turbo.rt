@@ -13,7 +13,7 @@ pub(super) fn walk(way: Way, set: Set, cell: usize, out: &mut [u16]) -> Leaf
     ensures { λ r. ⌜ WalkLeaf way set cell (now (out .entry)) (now (out .exit)) r ⌝ }
 {
     match way {
-        Way::Interleaver => wcdma::walk(set.n as usize, cell, out),
+        Way::Interleaver => wcdma_walk::walk(set.n as usize, cell, out),
         Way::Deinterleaver => Leaf::Stopped(1),
     }
 }
@@ -23,7 +23,7 @@ pub(super) fn address(way: Way, set: Set, x: usize) -> Single
     ensures { λ r. ⌜ SingleOf (set .n) (ruleOf set) (ruleIn way set .l) x r ⌝ }
 {
     match way {
-        Way::Interleaver => wcdma::address_of(set.n as usize, x),
-        Way::Deinterleaver => wcdma::place_of(set.n as usize, x),
+        Way::Interleaver => wcdma_walk::address_of(set.n as usize, x),
+        Way::Deinterleaver => wcdma_walk::place_of(set.n as usize, x),
     }
 }

@@ -19,7 +19,7 @@ use Rattle.sets.specs.declared.Set.{Set}
 use Rattle.sets.specs.Profiles.{rowsOf, groupOf}
 use Rattle.sets.specs.Carried.{five-turbo, other-carrier}
 use Rattle.carrier.specs.Formula.{carrierL, carrierM}
-use Rattle.wcdma_setup.specs.Rectangle.{cells}
+use Rattle.wcdma_shape.specs.Rectangle.{cells}
 use Rattle.wcdma.specs.Turbo.{address}
 use Rattle.walks.specs.declared.Walk.{Walk}
 use Rattle.families.specs.Rules.{ruleIn, rule-is}

@@ -15,10 +15,10 @@ use Rattle.laws.specs.Position.{position}
 use Rattle.sets.specs.declared.Set.{Set}
 use Rattle.sets.specs.Profiles.{familyOf, rowsOf, groupOf}
 use Rattle.carrier.specs.Formula.{firstStep, secondStep, carrierM, backStep, lastStep, carrierL}
-use Rattle.wcdma_setup.specs.Rectangle.{rows, primes, firstPrime, prime, colsOf, cols, cells}
-use Rattle.wcdma_setup.specs.Powers.{power, firstOne, generates, rootFrom, root}
+use Rattle.wcdma_shape.specs.Rectangle.{rows, primes, firstPrime, prime, colsOf, cols, cells}
+use Rattle.wcdma_shape.specs.Powers.{power, firstOne, generates, rootFrom, root}
 use Rattle.wcdma_setup.specs.Numbers.{noDivisor, isPrime, passes, nextIn, nextQ, qOf}
-use Rattle.wcdma_setup.specs.Orders.{rowOrders, whichOrder, orderOf, rowAt}
+use Rattle.wcdma_shape.specs.Orders.{rowOrders, whichOrder, orderOf, rowAt}
 use Rattle.wcdma.specs.Turbo.{entry, address, addresses, turboM, padCells}
 use Rattle.wcdma.specs.Pads.{cells-are}
 use Rattle.families.specs.Rules.{ruleOf}

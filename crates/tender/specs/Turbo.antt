@@ -5,7 +5,7 @@ use Prim.Native.Nat.{ℕ, _+_, _≤_, _<_}
 use mathlib.Core.Path.{_≡_}
 use Rattle.laws.specs.Perm.{Perm}
 use Rattle.laws.specs.Once.{count}
-use Rattle.wcdma_setup.specs.Rectangle.{cells}
+use Rattle.wcdma_shape.specs.Rectangle.{cells}
 use Rattle.wcdma.specs.Turbo.{addresses, turboL, turboM, padCells}
 use Rattle.wcdma.specs.Law as law
 use Rattle.wcdma.specs.Pads as pads

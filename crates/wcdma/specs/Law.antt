@@ -14,12 +14,12 @@ use Rattle.laws.specs.Perm.{Perm}
 use Rattle.laws.specs.Once.{inside, count, once, kept}
 use Rattle.laws.specs.Position.{position, kept-perm}
 use Rattle.laws.specs.Walk.{Lawful}
-use Rattle.wcdma_setup.specs.Rectangle.{rows, prime, cols, cells}
-use Rattle.wcdma_setup.specs.Powers.{root}
+use Rattle.wcdma_shape.specs.Rectangle.{rows, prime, cols, cells}
+use Rattle.wcdma_shape.specs.Powers.{root}
 use Rattle.wcdma_setup.specs.Numbers.{qOf}
-use Rattle.wcdma_setup.specs.Orders.{orderOf, rowAt, order-perm, order-listed}
-use Rattle.wcdma_setup.specs.Shape.{choice, rows-pos, rows-le, prime-listed, cols-low, cols-high, fits, cells-le}
-use Rattle.wcdma_setup.specs.Roots.{prime-root}
+use Rattle.wcdma_shape.specs.Orders.{orderOf, rowAt, order-perm, order-listed}
+use Rattle.wcdma_shape.specs.Shape.{choice, rows-pos, rows-le, prime-listed, cols-low, cols-high, fits, cells-le}
+use Rattle.wcdma_shape.specs.Roots.{prime-root}
 use Rattle.wcdma_setup.specs.Found.{q-unit}
 use Rattle.wcdma.specs.Turbo.{entry, address, addresses, turboL, turboM, turboRule}
 use Rattle.wcdma.specs.Row.{entry-lt, entry-inj}

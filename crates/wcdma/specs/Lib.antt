@@ -2,6 +2,5 @@ pub mod Turbo
 pub mod Row
 pub mod Law
 pub mod Pads
-pub mod Post
 pub mod Walks
 pub mod Wrong

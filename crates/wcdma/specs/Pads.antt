@@ -8,7 +8,7 @@ use borrow.Author.Tests.{leb-true}
 use Rattle.laws.specs.Span.{span, at-number}
 use Rattle.laws.specs.Cut.{kept-or-padding}
 use Rattle.laws.specs.Once.{inside}
-use Rattle.wcdma_setup.specs.Rectangle.{Size, rows, primes, firstPrime, prime, colsOf, cols, cells}
+use Rattle.wcdma_shape.specs.Rectangle.{Size, rows, primes, firstPrime, prime, colsOf, cols, cells}
 use Rattle.wcdma.specs.Turbo.{address, addresses, padCells}
 use Rattle.wcdma.specs.Law.{as-many}
 

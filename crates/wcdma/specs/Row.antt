@@ -9,8 +9,8 @@ use native.Mathlib.Decide.{ℕ-discrete}
 use lib.Dec.{ltb, eqb}
 use borrow.Author.Tests.{ltb-true, ltb-false, eqb-true, eqb-false, eq-eqb, ne-eqb}
 use Rattle.laws.specs.Units.{undo-inj}
-use Rattle.wcdma_setup.specs.Powers.{power}
-use Rattle.wcdma_setup.specs.Roots.{Root, power-lt, power-not-zero, power-inj}
+use Rattle.wcdma_shape.specs.Powers.{power}
+use Rattle.wcdma_shape.specs.Roots.{Root, power-lt, power-not-zero, power-inj}
 use Rattle.wcdma_setup.specs.Found.{Unitary}
 use Rattle.wcdma.specs.Turbo.{entry}
 

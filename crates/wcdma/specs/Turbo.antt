@@ -9,10 +9,10 @@ use Rattle.laws.specs.Keep.{keep, padding}
 use Rattle.laws.specs.Once.{inside}
 use Rattle.laws.specs.Position.{position}
 use Rattle.laws.specs.Walk.{Rule}
-use Rattle.wcdma_setup.specs.Rectangle.{rows, prime, cols, cells}
-use Rattle.wcdma_setup.specs.Powers.{power, root}
+use Rattle.wcdma_shape.specs.Rectangle.{rows, prime, cols, cells}
+use Rattle.wcdma_shape.specs.Powers.{power, root}
 use Rattle.wcdma_setup.specs.Numbers.{qOf, searchFails}
-use Rattle.wcdma_setup.specs.Orders.{rowAt}
+use Rattle.wcdma_shape.specs.Orders.{rowAt}
 
 -- U(j) where s is the power that belongs to column j: s - 1 if C = p - 1; else s for j < p - 1, 0 for j = p - 1, p for j = p
 abbrev pub entryWith : ℕ → ℕ → ℕ → ℕ → ℕ

@@ -2,7 +2,7 @@
 use Prim.Native.Nat.{ℕ, _≤_}
 use mathlib.Core.Path.{_≡_, sym, _∙_}
 use Rattle.laws.specs.Walk.{walkList, whole-list}
-use Rattle.wcdma_setup.specs.Rectangle.{Size}
+use Rattle.wcdma_shape.specs.Rectangle.{Size}
 use Rattle.wcdma.specs.Turbo.{addresses, turboRule}
 use Rattle.wcdma.specs.Law.{turbo-lawful}
 

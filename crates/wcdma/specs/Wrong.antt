@@ -7,10 +7,10 @@ use Rattle.laws.specs.Euclid.{gcdIn, gcd}
 use Rattle.laws.specs.Keep.{steps}
 use Rattle.laws.specs.Once.{inside}
 use Rattle.laws.specs.Walk.{walkCells}
-use Rattle.wcdma_setup.specs.Rectangle.{rows, primes, firstPrime, prime, colsOf, cols, cells}
-use Rattle.wcdma_setup.specs.Powers.{power, firstOne, generates, rootFrom, root}
+use Rattle.wcdma_shape.specs.Rectangle.{rows, primes, firstPrime, prime, colsOf, cols, cells}
+use Rattle.wcdma_shape.specs.Powers.{power, firstOne, generates, rootFrom, root}
 use Rattle.wcdma_setup.specs.Numbers.{noDivisor, isPrime, passes, nextIn, nextQ, qOf}
-use Rattle.wcdma_setup.specs.Orders.{rowOrders, whichOrder, orderOf, rowAt}
+use Rattle.wcdma_shape.specs.Orders.{rowOrders, whichOrder, orderOf, rowAt}
 use Rattle.wcdma.specs.Turbo.{entry, address, turboRule}
 
 -- the cells of a walk that also passes the padding after its slice is full

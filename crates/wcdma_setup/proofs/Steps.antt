@@ -6,7 +6,7 @@ use native.Mathlib.Omega.{arith}
 use native.Mathlib.Numerals.{add-one}
 use lib.Dec.{eqb}
 use borrow.Author.Tests.{eq-eqb, ne-eqb, eqb-true}
-use Rattle.wcdma_setup.specs.Powers.{power, isTableRoot}
+use Rattle.wcdma_shape.specs.Powers.{power, isTableRoot}
 use Rattle.wcdma_setup.specs.Numbers.{nextQ, qOf, allFound}
 
 pub power-next : (p v x last : ℕ) → last ≡ power p v x → v * last % p ≡ power p v (x + 1)

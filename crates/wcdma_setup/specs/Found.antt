@@ -10,9 +10,9 @@ use lib.Dec.{eqb}
 use borrow.Author.Tests.{eqb-true, ne-eqb}
 use Rattle.laws.specs.Euclid.{gcdIn, gcd}
 use Rattle.laws.specs.Members.{both, every, at-each}
-use Rattle.wcdma_setup.specs.Rectangle.{rows, primes}
+use Rattle.wcdma_shape.specs.Rectangle.{rows, primes}
 use Rattle.wcdma_setup.specs.Numbers.{noDivisor, isPrime, passes, nextIn, nextQ, qOf, allFound, searchFails}
-use Rattle.wcdma_setup.specs.Shape.{rows-pos, rows-le, prime-listed}
+use Rattle.wcdma_shape.specs.Shape.{rows-pos, rows-le, prime-listed}
 use Rattle.wcdma_setup.specs.Primes.{Next, next-is}
 
 -- q has an inverse modulo m

@@ -1,10 +1,5 @@
-pub mod Rectangle
-pub mod Powers
 pub mod Numbers
-pub mod Orders
-pub mod Shape
 pub mod Primes
-pub mod Roots
 pub mod Found
 pub mod Search
 pub mod Post

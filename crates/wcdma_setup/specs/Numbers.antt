@@ -4,7 +4,7 @@ use Prim.Native.Nat.{ℕ, zero, suc, _-_, _%_}
 use mathlib.Core.Bool.{Bool, true, cond, not, _&&_}
 use lib.Dec.{eqb, ltb}
 use Rattle.laws.specs.Euclid.{gcd}
-use Rattle.wcdma_setup.specs.Rectangle.{rows, prime}
+use Rattle.wcdma_shape.specs.Rectangle.{rows, prime}
 
 -- none of the n numbers from d on divides q
 unfoldable pub noDivisor : ℕ → ℕ → ℕ → Bool

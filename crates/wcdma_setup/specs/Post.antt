@@ -5,34 +5,8 @@ use mathlib.Core.Bool.{Bool, true, cond}
 use mathlib.Core.Path.{_≡_}
 use lib.ListN.{getD, length}
 use lib.Dec.{eqb}
-use Rattle.wcdma_setup.specs.declared.Shape.{Shape}
-use Rattle.wcdma_setup.specs.Rectangle.{Size, rows, primes, prime, cols}
-use Rattle.wcdma_setup.specs.Powers.{power, root, isTableRoot}
+use Rattle.wcdma_shape.specs.Powers.{power, isTableRoot}
 use Rattle.wcdma_setup.specs.Numbers.{nextQ, qOf, allFound}
-use Rattle.wcdma_setup.specs.Orders.{orderOf}
-
--- a shape holds R, p, C and v of its size
-pub record ShapeOf (s : Shape) : Type 0 where
-  pub size : Size (s .k)
-  pub rows-is : s .r ≡ rows (s .k)
-  pub prime-is : s .p ≡ prime (s .k)
-  pub cols-is : s .c ≡ cols (s .k)
-  pub root-is : s .v ≡ root (prime (s .k))
-
--- what the search for p is given: R and the table
-pub record PlaceIn (k r : ℕ) (list : List ℕ) : Type 0 where
-  pub size : Size k
-  pub rows-is : r ≡ rows k
-  pub table-is : list ≡ primes
-
-pub record PlaceOf (k n : ℕ) : Type 0 where
-  pub listed : n < 52
-  pub prime-is : getD primes n 0 ≡ prime k
-
-pub record ColsIn (k r p : ℕ) : Type 0 where
-  pub size : Size k
-  pub rows-is : r ≡ rows k
-  pub prime-is : p ≡ prime k
 
 -- the next q, or 0; it is odd
 pub record NextOf (m last r : ℕ) : Type 0 where
@@ -66,8 +40,3 @@ pub record PowersIn (p v less : ℕ) (s : List ℕ) : Type 0 where
   pub some : (x : ℕ) → 0 < power p v x
   pub least : less ≤ 1
   pub long : length s ≡ 256
-
-pub record RowIn (k r i : ℕ) (order : List ℕ) : Type 0 where
-  pub rows-is : r ≡ rows k
-  pub below : i < r
-  pub order-is : order ≡ orderOf k

@@ -10,7 +10,7 @@ use borrow.Author.Tests.{ltb-true, lt-ltb, ltb-false, eqb-true, eqb-false, eq-eq
 use Rattle.laws.specs.Euclid.{gcd}
 use Rattle.laws.specs.Members.{both}
 use Rattle.laws.specs.Keep.{keep}
-use Rattle.wcdma_setup.specs.Rectangle.{primes}
+use Rattle.wcdma_shape.specs.Rectangle.{primes}
 use Rattle.wcdma_setup.specs.Numbers.{noDivisor, isPrime, passes, nextIn, above, nextQ}
 
 -- q is above 1 and has no divisor from 2 to q - 1

@@ -7,7 +7,7 @@ use native.Mathlib.Omega.{arith}
 use lib.Dec.{eqb}
 use borrow.Author.Tests.{eqb-true, eqb-false, not-true, not-false}
 use Rattle.laws.specs.Members.{both}
-use Rattle.wcdma_setup.specs.Rectangle.{rows, prime}
+use Rattle.wcdma_shape.specs.Rectangle.{rows, prime}
 use Rattle.wcdma_setup.specs.Numbers.{nextQ, qOf, allFound, searchFails}
 
 -- fewer than R are found: for a row i below R the search for q(i) passes 89

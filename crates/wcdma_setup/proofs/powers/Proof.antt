@@ -8,7 +8,7 @@ use native.Mathlib.Nat.{mod-lt}
 use native.Mathlib.Omega.{arith}
 use Rattle.laws.specs.Entries.{fill-more}
 use Rattle.wcdma_setup.proofs.Steps.{power-next}
-use Rattle.wcdma_setup.specs.Powers.{power}
+use Rattle.wcdma_shape.specs.Powers.{power}
 use Rattle.wcdma_setup.proofs.powers.Statement.{statement}
 use Rattle.wcdma_setup.proofs.powers.Tie as tie
 

@@ -1,0 +1,14 @@
+-- `carrier_columns::ColumnSpot::address` is base + turn.
+use mathlib.Core.Path.{refl}
+use borrow.Author.Needs.{needs}
+use Rattle.carrier_columns.proofs.ColumnSpot.address.Statement.{statement}
+use Rattle.carrier_columns.proofs.ColumnSpot.address.Tie as tie
+
+add-result : tie.Need-add-result
+add-result c = search needs
+
+returns : tie.Need-returns
+returns c = refl
+
+pub address-spec : {M : Type 1} → statement M
+address-spec = tie.close (tie.spec add-result returns)

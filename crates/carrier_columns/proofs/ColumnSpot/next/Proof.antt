@@ -1,0 +1,23 @@
+-- `carrier_columns::ColumnSpot::next` is one row on, whatever the column and the row.
+use Prim.Native.Nat.{ℕ, _+_, _-_, _%_}
+use mathlib.Core.Path.{_≡_, ap, _∙_}
+use native.Mathlib.Omega.{arith}
+use borrow.Author.Needs.{needs}
+use Rattle.carrier_columns.specs.Column.{column-on}
+use Rattle.carrier_columns.proofs.ColumnSpot.next.Statement.{statement}
+use Rattle.carrier_columns.proofs.ColumnSpot.next.Tie as tie
+
+add-base : tie.Need-add-base
+add-base c = search needs
+
+down-by-one-requires : tie.Need-down-by-one-requires
+down-by-one-requires c κs = search needs
+
+returns : tie.Need-returns
+returns c = λ n col row h p.
+    column-on p (c .down-by-one .result)
+    (c .down-by-one .ensures (col + n - (row + 1))
+    (p .turn-is ∙ ap (λ (x : ℕ). x % (c .before .before .args .s)) (let e : col + n - row ≡ col + n - (row + 1) + 1 = omega arith in e)))
+
+pub next-spec : {M : Type 1} → statement M
+next-spec = tie.close (tie.spec add-base down-by-one-requires returns)

@@ -1,3 +1,0 @@
-pub mod Place
-pub mod Cell
-pub mod Setup

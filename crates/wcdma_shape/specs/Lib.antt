@@ -1,0 +1,6 @@
+pub mod Rectangle
+pub mod Powers
+pub mod Orders
+pub mod Shape
+pub mod Roots
+pub mod Post

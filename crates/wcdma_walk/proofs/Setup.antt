@@ -1,0 +1,101 @@
+-- What the walk hands to its parts, and what its answer says.
+use Prim.Native.Nat.{ℕ, _*_, _-_, _/_, _%_, _≤_, _<_}
+use mathlib.Core.Bool.{Bool, true, false, not, cond}
+use mathlib.Core.List.{List, _++_}
+use mathlib.Core.Path.{_≡_, refl, ap, ap₂, sym, _∙_, subst}
+use native.Mathlib.Nat.{div-le-of-le-mul, mod-lt, div-add-mod'}
+use native.Mathlib.Omega.{arith}
+use lib.Dec.{eqb}
+use lib.ListN.{getD, length, take, drop, length-append}
+use lib.Seq.{take-at}
+use Rattle.laws.specs.declared.Leaf.{Leaf}
+use Rattle.laws.specs.declared.Single.the-variants.{Barred}
+use Rattle.laws.specs.Walk.{walkSlice, LeafOf, SingleOf, table-is}
+use Rattle.laws.specs.Leaves.{WentWell, leaf-went, single-fails}
+use Rattle.wcdma_shape.specs.declared.Shape.{Shape}
+use Rattle.wcdma_shape.specs.Rectangle.{Size, rows, prime, cols, cells}
+use Rattle.wcdma_shape.specs.Powers.{power, root}
+use Rattle.wcdma_setup.specs.Numbers.{qOf, allFound, searchFails}
+use Rattle.wcdma_shape.specs.Shape.{rows-pos, cols-high, prime-small}
+use Rattle.wcdma_shape.specs.Roots.{prime-root, power-pos}
+use Rattle.wcdma_shape.specs.Post.{ShapeOf}
+use Rattle.wcdma_setup.specs.Post.{NumbersOf, shortBy}
+use Rattle.wcdma.specs.Turbo.{addresses, turboL, turboRule}
+use Rattle.wcdma.specs.Law.{as-many, turbo-lawful}
+use Rattle.wcdma.specs.Walks.{walk-whole}
+use Rattle.wcdma_rows.specs.Post.{Rows, Exponents}
+use Rattle.wcdma_cells.specs.Post.{FillIn, WentOf}
+use Rattle.wcdma_walk.specs.Post.{SearchOf, ByIn}
+
+pub short-le : (c p x : ℕ) → x ≡ shortBy c p → x ≤ 1
+short-le c p x e = rw e (go (eqb c (p - 1)))
+  where
+    go : (b : Bool) → cond b 1 0 ≤ 1
+    go true = omega arith
+    go false = omega arith
+
+-- the search for q of a shape is that of its size
+pub searched : (z : Shape) → ShapeOf z → (q : List ℕ) (found : Bool) → NumbersOf (z .p - 1) (z .r) q found → SearchOf (z .k) q found
+unfolding searchFails
+searched z s q found n = record {
+  says = ap not (n .all ∙ ap₂ (λ (p r : ℕ). allFound (p - 1) 1 (r - 1)) (s .prime-is) (s .rows-is));
+  numbers = λ e x l. n .each e x (omega (arith, s .rows-is)) ∙ ap (λ (p : ℕ). qOf (p - 1) x) (s .prime-is);
+}
+
+-- R·C of a shape
+pub shape-total : (z : Shape) → ShapeOf z → {k : ℕ} → z .k ≡ k → z .r * z .c ≡ cells k
+unfolding cells
+shape-total z s e = ap₂ (λ (r c : ℕ). r * c) (s .rows-is) (s .cols-is) ∙ ap cells e
+
+-- the powers of a root are never 0
+pub power-some : (k x : ℕ) {p v : ℕ} → p ≡ prime k → v ≡ root (prime k) → 0 < power p v x
+power-some k x e f = rw (e, f) (power-pos (prime-root k) x)
+
+module _ {z : Shape} {q : List ℕ} {cell : ℕ} (b : ByIn z q cell) where
+  pub rows-some : 0 < z .r
+  rows-some = omega (arith, rows-pos (z .k), b .shape .rows-is)
+
+  pub column-small : cell / z .r ≤ 300
+  unfolding cells
+  column-small =
+      let s = b .shape in
+      let h : cell / rows (z .k) ≤ cols (z .k) = div-le-of-le-mul (rows (z .k)) {m = cell} {n = cols (z .k)} (b .within) in
+      rw (s .rows-is) (omega (arith, cols-high (z .k), prime-small (z .k)))
+
+  pub fill-in : (s base fall e : List ℕ) (less : ℕ) → less ≡ shortBy (z .c) (z .p)
+      → ((x : ℕ) → x < z .p - 1 → getD s x 0 ≡ power (z .p) (z .v) x - less)
+      → Rows (z .k) base fall × Exponents (z .k) (cell % z .r) (cell / z .r) e
+      → FillIn z cell (cell % z .r) (cell / z .r) s base fall e
+  fill-in s base fall e less el g w =
+      let h = b .shape in
+      record {
+        shape = h;
+        tables = record { powers = λ x l. g x (omega (arith, h .prime-is)) ∙ rw (el, h .root-is, h .prime-is, h .cols-is); rows-are = w .0 };
+        within = b .within;
+        place = rw (h .rows-is) (sym (div-add-mod' cell (rows (z .k))));
+        row = rw (h .rows-is) (mod-lt cell (rows-pos (z .k)));
+        exponents = w .1;
+      }
+
+-- the answer of a walk once the search has ended
+pub went-says : (k cell : ℕ) (old : List ℕ) {y : ℕ} {new : List ℕ} {r : Leaf} → y ≡ k → searchFails k ≡ false → cell ≤ cells k → WentOf y cell old new r
+    → LeafOf k (turboRule k) cell old new r
+went-says k cell old {y} {new} {r} e f h w =
+    let z : WentOf k cell old new r = rw e at w in
+    subst (λ (x : Leaf). LeafOf k (turboRule k) cell old new x) (sym (z .answer)) (leaf-went f h refl refl (z .slice))
+
+-- a table that a walk from cell 0 filled is L
+module _ (k : ℕ) (size : Size k) (old : List ℕ) {table : List ℕ} {a b : ℕ} (h : k ≤ length old) (w : WentWell k (turboRule k) 0 old table a b) where
+  table-whole : table ≡ addresses k ++ drop (length (addresses k)) old
+  unfolding walkSlice
+  table-whole = w .left ∙ ap (λ (l : List ℕ). l ++ drop (length l) old) (walk-whole k size (length old) h)
+
+  pub table-at : (i : ℕ) → i < k → getD table i 0 ≡ turboL k i
+  table-at i l = ap (λ (l : List ℕ). getD l i 0) (w .left) ∙ table-is (turbo-lawful k (size .high)) old h i l
+
+  pub table-front : take k table ≡ addresses k
+  table-front = ap (take k) table-whole ∙ take-at (addresses k) (drop (length (addresses k)) old) k (as-many k (size .high))
+
+-- a walk from cell 0 that was refused was so by 8, and so is one address
+pub barred : (k x : ℕ) {n : ℕ} {f : ℕ → ℕ} → (searchFails k ≡ true) × (n ≡ 8) → SingleOf k (turboRule k) f x (Barred n)
+barred k x {n} {f} e = subst (λ (y : ℕ). SingleOf k (turboRule k) f x (Barred y)) (sym (e .1)) (single-fails (e .0))
