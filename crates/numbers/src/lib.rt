@@ -1,7 +1,7 @@
 // Decimal numbers of one to ten digits.
 ghost use mathlib.Core.Path.{_≡_};
 ghost use Prim.Native.Nat.{_≤_};
-ghost use Rattle.words.specs.Decimal.{digitOf, readFrom, saidBy};
+ghost use Rattle.numbers.specs.Decimal.{digitOf, readFrom, saidBy};
 
 // What a word says.
 pub enum Number {

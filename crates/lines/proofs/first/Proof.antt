@@ -1,11 +1,11 @@
 use mathlib.Core.Path.{sym}
 use lib.Seq.{take-all}
-use Rattle.words.specs.Words.{counted}
+use Rattle.lines.specs.Words.{counted}
 use borrow.Author.Needs.{needs}
-use Rattle.words.proofs.line.first.Statement.{statement}
-use Rattle.words.proofs.line.first.Tie as tie
-use Rattle.words.proofs.line.first.Reads as reads
-use Rattle.words.proofs.line.first.Lts as lts
+use Rattle.lines.proofs.first.Statement.{statement}
+use Rattle.lines.proofs.first.Tie as tie
+use Rattle.lines.proofs.first.Reads as reads
+use Rattle.lines.proofs.first.Lts as lts
 
 slice-aggregate-result : tie.Need-slice-aggregate-result
 slice-aggregate-result c = counted _ _ (search needs)

@@ -1,10 +1,10 @@
 use borrow.Author.Tests.{lt-ltb, le-ltb}
-use Rattle.words.specs.Decimal.{digitOf}
+use Rattle.numbers.specs.Decimal.{digitOf}
 use borrow.Author.Needs.{needs}
-use Rattle.words.proofs.number.digit.Statement.{statement}
-use Rattle.words.proofs.number.digit.Tie as tie
-use Rattle.words.proofs.number.digit.Reads as reads
-use Rattle.words.proofs.number.digit.Lts as lts
+use Rattle.numbers.proofs.digit.Statement.{statement}
+use Rattle.numbers.proofs.digit.Tie as tie
+use Rattle.numbers.proofs.digit.Reads as reads
+use Rattle.numbers.proofs.digit.Lts as lts
 
 returns : tie.Need-returns
 unfolding digitOf

@@ -9,8 +9,8 @@ use mathlib.Core.Bool.{cond}
 use mathlib.Core.List.{List, [], _∷_}
 use lib.ListN.{length, drop, getD, drop-of-length-le}
 use lib.Dec.{ltb, eqb}
-use Rattle.words.specs.declared.number.Number.{Number}
-use Rattle.words.specs.declared.number.Number.the-variants.{Value, Wrong}
+use Rattle.numbers.specs.declared.Number.{Number}
+use Rattle.numbers.specs.declared.Number.the-variants.{Value, Wrong}
 
 -- what the byte says as a digit, or 10
 unfoldable pub digitOf : ℕ → ℕ

@@ -2,11 +2,11 @@ use borrow.Author.Needs.{needs}
 use Prim.Native.Nat.{_-_}
 use native.Mathlib.Omega.{arith}
 use lib.ListN.{length}
-use Rattle.words.specs.Appended.{Appending, append-first, append-goes, append-full, append-done}
-use Rattle.words.proofs.line.append.Statement.{statement}
-use Rattle.words.proofs.line.append.Tie as tie
-use Rattle.words.proofs.line.append.Reads as reads
-use Rattle.words.proofs.line.append.Lts as lts
+use Rattle.lines.specs.Appended.{Appending, append-first, append-goes, append-full, append-done}
+use Rattle.lines.proofs.append.Statement.{statement}
+use Rattle.lines.proofs.append.Tie as tie
+use Rattle.lines.proofs.append.Reads as reads
+use Rattle.lines.proofs.append.Lts as lts
 
 abbrev Inv-loop : tie.InvT-loop
 Inv-loop room₀ from s at₀ i₀ room at i = Appending room₀ from s room at i

@@ -1,12 +1,12 @@
 use mathlib.Core.Path.{_∙_}
 use borrow.Author.Tests.{eq-eqb, ne-eqb, lt-ltb, le-ltb}
-use Rattle.words.specs.Decimal.{saidBy}
+use Rattle.numbers.specs.Decimal.{saidBy}
 use borrow.Author.Needs.{needs}
-use Rattle.words.proofs.number.read.Statement.{statement}
-use Rattle.words.proofs.number.read.Tie as tie
-use Rattle.words.proofs.number.read.Reads as reads
-use Rattle.words.proofs.number.read.Lts as lts
-use Rattle.words.proofs.number.digits.Reads as digits-reads
+use Rattle.numbers.proofs.read.Statement.{statement}
+use Rattle.numbers.proofs.read.Tie as tie
+use Rattle.numbers.proofs.read.Reads as reads
+use Rattle.numbers.proofs.read.Lts as lts
+use Rattle.numbers.proofs.digits.Reads as digits-reads
 
 returns : tie.Need-returns
 unfolding saidBy

@@ -2,12 +2,12 @@ use borrow.Author.Needs.{needs}
 use mathlib.Core.Path.{refl}
 use Prim.Native.Nat.{_-_}
 use lib.ListN.{length}
-use Rattle.words.specs.Words.{Running, runs-out, run-stops, run-goes}
-use Rattle.words.proofs.line.run_end.Statement.{statement}
-use Rattle.words.proofs.line.run_end.Tie as tie
-use Rattle.words.proofs.line.run_end.Reads as reads
-use Rattle.words.proofs.line.run_end.Lts as lts
-use Rattle.words.proofs.line.of_word.Reads as of-word-reads
+use Rattle.lines.specs.Words.{Running, runs-out, run-stops, run-goes}
+use Rattle.lines.proofs.run_end.Statement.{statement}
+use Rattle.lines.proofs.run_end.Tie as tie
+use Rattle.lines.proofs.run_end.Reads as reads
+use Rattle.lines.proofs.run_end.Lts as lts
+use Rattle.lines.proofs.of_word.Reads as of-word-reads
 
 abbrev Inv-loop : tie.InvT-loop
 Inv-loop line from words at₀ at = Running words line from at

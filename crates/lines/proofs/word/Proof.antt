@@ -1,11 +1,11 @@
 use borrow.Author.Needs.{needs}
 use Prim.Native.Nat.{_-_}
-use Rattle.words.specs.Words.{Wording, word-first, word-passed, word-found}
-use Rattle.words.proofs.line.word.Statement.{statement}
-use Rattle.words.proofs.line.word.Tie as tie
-use Rattle.words.proofs.line.word.Reads as reads
-use Rattle.words.proofs.line.word.Lts as lts
-use Rattle.words.proofs.line.run_end.Reads as run-end-reads
+use Rattle.lines.specs.Words.{Wording, word-first, word-passed, word-found}
+use Rattle.lines.proofs.word.Statement.{statement}
+use Rattle.lines.proofs.word.Tie as tie
+use Rattle.lines.proofs.word.Reads as reads
+use Rattle.lines.proofs.word.Lts as lts
+use Rattle.lines.proofs.run_end.Reads as run-end-reads
 
 abbrev Inv-loop : tie.InvT-loop
 Inv-loop line i at₀ k₀ at k = Wording line i at k
