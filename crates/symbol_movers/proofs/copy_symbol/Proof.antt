@@ -1,4 +1,4 @@
--- `movers::symbols::copy_symbol` copies `width` bytes. The loop's invariant: the first i are copied; the measure is what is left.
+-- `symbol_movers::copy_symbol` copies `width` bytes. The loop's invariant: the first i are copied; the measure is what is left.
 use mathlib.Core.List.{List}
 use mathlib.Core.Path.{_≡_, refl, sym, ap, _∙_}
 use Prim.Native.Nat.{ℕ, _+_, _-_, _≤_, _<_}
@@ -6,8 +6,8 @@ use native.Mathlib.Numerals.{add-one}
 use native.Mathlib.Omega.{arith}
 use lib.ListN.{length, getD, set, drop, length-set, length-drop}
 use lib.Seq.{paste, paste-zero, paste-suc, getD-drop}
-use Rattle.movers.proofs.symbols.copy_symbol.Statement.{statement}
-use Rattle.movers.proofs.symbols.copy_symbol.Tie as tie
+use Rattle.symbol_movers.proofs.copy_symbol.Statement.{statement}
+use Rattle.symbol_movers.proofs.copy_symbol.Tie as tie
 
 abbrev Inv-loop : tie.InvT-loop
 Inv-loop width src from dst₀ to i₀ dst i = (length dst ≡ length dst₀) × (i ≤ width) × (dst ≡ paste dst₀ to (drop from src) i)

@@ -1,11 +1,11 @@
-// Symbols of `width` bytes moved by a lent table, either way.
+// Symbols of `width` bytes moved by a lent table, either way. Nothing is tested here: whoever calls has filled the table and judged the lengths.
 ghost use mathlib.Core.Path.{_≡_};
 ghost use Prim.Native.Nat.{_+_, _≤_};
 ghost use lib.ListN.{length, drop};
 ghost use lib.Seq.{paste};
 ghost use Rattle.laws.specs.declared.Way.the-variants.{Interleaver, Deinterleaver};
 ghost use Rattle.laws.specs.Loop.{by};
-ghost use Rattle.movers.specs.Grouped.{Movable, symbolsBy};
+ghost use Rattle.symbol_movers.specs.Grouped.{Movable, symbolsBy};
 
 // Copies one symbol.
 fn copy_symbol(width: usize, src: &[u8], from: usize, dst: &mut [u8], to: usize)

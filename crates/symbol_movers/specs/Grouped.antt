@@ -11,8 +11,8 @@ use lib.Seq.{paste, length-paste}
 use Rattle.laws.specs.declared.Way.{Way}
 use Rattle.laws.specs.Move.{gather, scatter}
 use Rattle.laws.specs.Loop.{by, Within, Gathered, gather-first, gather-more, gather-all, Scattered, scatter-first, scatter-more, scatter-all}
 use Rattle.movers.specs.Moves.{movedBy}
-use Rattle.movers.specs.Groups.{groups, joined, length-groups, joined-groups, group-fits, group-moved}
+use Rattle.symbol_movers.specs.Groups.{groups, joined, length-groups, joined-groups, group-fits, group-moved}
 
 -- n symbols of w entries moved by a list: the groups of w are moved, and joined again. [] is getD's default: an accepted call never reads it
 abbrev pub symbolsBy : {A : Type 0} → Way → (ℕ → ℕ) → ℕ → ℕ → List A → List A → List A

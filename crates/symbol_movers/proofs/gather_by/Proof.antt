@@ -1,10 +1,10 @@
--- `movers::symbols::gather_by` gathers whole symbols by the table. The loop's invariant: the first t are in place; the measure is what is left.
+-- `symbol_movers::gather_by` gathers whole symbols by the table. The loop's invariant: the first t are in place; the measure is what is left.
 use Prim.Native.Nat.{_-_}
 use mathlib.Core.Path.{refl, sym, _∙_}
 use native.Mathlib.Omega.{arith}
-use Rattle.movers.specs.Grouped.{GatheredSymbols, gather-inside, gather-begins, gather-goes, gather-ends}
-use Rattle.movers.proofs.symbols.gather_by.Statement.{statement}
-use Rattle.movers.proofs.symbols.gather_by.Tie as tie
+use Rattle.symbol_movers.specs.Grouped.{GatheredSymbols, gather-inside, gather-begins, gather-goes, gather-ends}
+use Rattle.symbol_movers.proofs.gather_by.Statement.{statement}
+use Rattle.symbol_movers.proofs.gather_by.Tie as tie
 
 abbrev Inv-loop : tie.InvT-loop
 Inv-loop table n width src dst₀ t₀ to₀ dst t to = GatheredSymbols table n width src dst₀ dst t to

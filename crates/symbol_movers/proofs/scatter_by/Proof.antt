@@ -1,10 +1,10 @@
--- `movers::symbols::scatter_by` scatters whole symbols by the table. The loop's invariant: the first t are in place; the measure is what is left.
+-- `symbol_movers::scatter_by` scatters whole symbols by the table. The loop's invariant: the first t are in place; the measure is what is left.
 use Prim.Native.Nat.{_-_}
 use mathlib.Core.Path.{refl, sym, _∙_}
 use native.Mathlib.Omega.{arith}
-use Rattle.movers.specs.Grouped.{ScatteredSymbols, scatter-inside, scatter-begins, scatter-goes, scatter-ends}
-use Rattle.movers.proofs.symbols.scatter_by.Statement.{statement}
-use Rattle.movers.proofs.symbols.scatter_by.Tie as tie
+use Rattle.symbol_movers.specs.Grouped.{ScatteredSymbols, scatter-inside, scatter-begins, scatter-goes, scatter-ends}
+use Rattle.symbol_movers.proofs.scatter_by.Statement.{statement}
+use Rattle.symbol_movers.proofs.scatter_by.Tie as tie
 
 abbrev Inv-loop : tie.InvT-loop
 Inv-loop table n width src dst₀ t₀ from₀ dst t from = ScatteredSymbols table n width src dst₀ dst t from
