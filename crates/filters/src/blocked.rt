@@ -39,7 +39,7 @@ fn turn(way: Way, set: Set, width: u32, src: &mut [u8], dst: &mut [u8]) -> bool 
     if got == 0 {
         return false;
     }
-    send(way, set, width, words::line::first(src, got), dst)
+    send(way, set, width, lines::first(src, got), dst)
 }
 
 fn turns(way: Way, set: Set, width: u32, src: &mut [u8], dst: &mut [u8]) {

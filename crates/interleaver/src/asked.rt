@@ -1,8 +1,8 @@
 // The numbers of a command. A word that is no number is told, and the command does nothing.
 use super::told;
+use lines::word;
+use numbers::Number;
 use sets::Set;
-use words::line::word;
-use words::number::Number;
 
 // A parameter set, or none, which has been told.
 pub enum SetAsked {
@@ -22,7 +22,7 @@ fn wrong(name: &[u8], most: &[u8], got: &[u8]) {
 
 // The number that word i says, by its name.
 pub fn number(line: &[u8], i: usize, name: &[u8]) -> Number {
-    let n = words::number::read(word(line, i));
+    let n = numbers::read(word(line, i));
     if let Number::Wrong = n {
         wrong(name, b"4294967295", word(line, i));
     }
@@ -31,7 +31,7 @@ pub fn number(line: &[u8], i: usize, name: &[u8]) -> Number {
 
 // The same, where it may not be above 255 or some other most, which `digits` spells.
 pub fn small_number(line: &[u8], i: usize, name: &[u8], most: u32, digits: &[u8]) -> Number {
-    let n = words::number::read(word(line, i));
+    let n = numbers::read(word(line, i));
     if let Number::Value(v) = n {
         if v <= most {
             return n;

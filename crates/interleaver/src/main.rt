@@ -5,11 +5,11 @@ mod told; // told.rt: help, and what was expected
 
 use asked::SetAsked;
 use laws::Way;
+use lines::ROOM;
+use lines::word;
+use numbers::Number;
 use told::Command;
 use words::line::Line;
-use words::line::ROOM;
-use words::line::word;
-use words::number::Number;
 
 // What a question on a set answers.
 fn answer(c: Command, line: &[u8]) {
@@ -110,7 +110,7 @@ fn answer_lines() {
 }
 
 fn answer_first(room: &[u8; ROOM], n: usize) {
-    answer_line(words::line::first(room, n));
+    answer_line(lines::first(room, n));
 }
 
 fn answer_line(line: &[u8]) {
@@ -148,7 +148,7 @@ fn obey(line: &[u8]) {
 }
 
 fn begin(room: &[u8; ROOM], n: usize) {
-    obey(words::line::first(room, n));
+    obey(lines::first(room, n));
 }
 
 fn main() {

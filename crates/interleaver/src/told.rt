@@ -2,7 +2,7 @@
 use check::same;
 use libc::STDERR_FILENO;
 use libc::STDOUT_FILENO;
-use words::line::word;
+use lines::word;
 
 // What the first word asks for.
 pub enum Command {

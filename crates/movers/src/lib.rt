@@ -1,5 +1,4 @@
-// The loops that move symbols by a table of addresses, either way. Nothing is tested here, and no symbol is looked at: whoever calls has filled
-// the table and judged the lengths.
+// The loops that move bytes and f32 values by a table of addresses, either way. Nothing is tested here, and no symbol is looked at: whoever calls
+// has filled the table and judged the lengths.
 pub mod bytes; // bytes.rt: bytes
 pub mod soft; // soft.rt: f32 soft values
-pub mod symbols; // symbols.rt: symbols of a width

@@ -7,7 +7,7 @@ use Rattle.laws.specs.Outcome.{after}
 use Rattle.sets.specs.declared.Set.{Set}
 use Rattle.families.specs.Rules.{L}
 use Rattle.tables.specs.Answer.{blockLines}
-use Rattle.movers.specs.Grouped.{symbolsBy}
+use Rattle.symbol_movers.specs.Grouped.{symbolsBy}
 
 -- symbol t of the output is symbol L(t) of the input after interleaving, symbol L(t) of it symbol t after deinterleaving; where a line applies, the
 -- output is what it was. A block has N · w bytes

@@ -10,8 +10,8 @@ use Rattle.sets.specs.declared.Set.{Set}
 use Rattle.families.specs.Rules.{L}
 use Rattle.tables.specs.Answer.{blockLines}
 use Rattle.movers.specs.Moves.{movedBy, moved-blind}
-use Rattle.movers.specs.Groups.{groups, joined}
-use Rattle.movers.specs.Grouped.{symbolsBy}
+use Rattle.symbol_movers.specs.Groups.{groups, joined}
+use Rattle.symbol_movers.specs.Grouped.{symbolsBy}
 use Rattle.symbols.specs.Answer.{movedSymbols}
 
 module _ {A B : Type 0} (h : A → B) where

@@ -13,9 +13,9 @@ use Rattle.families.specs.Rules.{L, ruleOf, ruleIn}
 use Rattle.tables.specs.Answer.{movedOf}
 use Rattle.movers.specs.Moves.{other, perm-in, moved-is}
 use Rattle.tables.specs.Passed.{its-perm, its-lengths, its-output}
-use Rattle.movers.specs.Groups.{groups, joined, length-groups, joined-groups, getD-groups}
+use Rattle.symbol_movers.specs.Groups.{groups, joined, length-groups, joined-groups, getD-groups}
 use Rattle.symbols.specs.Wide.{Wide, wide-groups, wide-gather, length-joined, groups-joined}
-use Rattle.movers.specs.Grouped.{symbolsBy}
+use Rattle.symbol_movers.specs.Grouped.{symbolsBy}
 use Rattle.symbols.specs.Answer.{movedSymbols}
 
 -- where a call is done

@@ -16,7 +16,7 @@ use Rattle.tables.specs.Answer.{blockLines, movedOf}
 use Rattle.movers.specs.Moves.{perm-in, moved-is}
 use Rattle.tables.specs.Passed.{its-perm, its-lengths}
 use Rattle.blocks.specs.Answer.{moved}
-use Rattle.movers.specs.Groups.{groups, joined, length-groups, getD-groups}
+use Rattle.symbol_movers.specs.Groups.{groups, joined, length-groups, getD-groups}
 use Rattle.symbols.specs.Answer.{movedSymbols}
 
 module _ {A : Type 0} where

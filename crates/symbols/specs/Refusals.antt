@@ -8,7 +8,7 @@ use Rattle.laws.specs.Sentences.{FirstTrue}
 use Rattle.sets.specs.declared.Set.{Set}
 use Rattle.families.specs.Rules.{L}
 use Rattle.tables.specs.Refusals.{blockSentences, buffer-kept}
-use Rattle.movers.specs.Grouped.{symbolsBy}
+use Rattle.symbol_movers.specs.Grouped.{symbolsBy}
 use Rattle.symbols.specs.Answer.{movedSymbols}
 
 pub output-kept : {A : Type 0} (way : Way) (s : Set) (w : ℕ) (src dst : List A) (k : ℕ)

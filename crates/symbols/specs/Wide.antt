@@ -8,7 +8,7 @@ use native.Mathlib.Omega.{arith}
 use lib.ListN.{length, getD, drop, length-append, length-drop}
 use lib.Seq.{length-take-le, take-at, drop-at}
 use Rattle.laws.specs.Move.{gather, length-gather, getD-gather}
-use Rattle.movers.specs.Groups.{groups, joined, length-groups, getD-groups, group-fits}
+use Rattle.symbol_movers.specs.Groups.{groups, joined, length-groups, getD-groups, group-fits}
 
 module _ {A : Type 0} where
   pub record Wide (w n : ℕ) (gs : List (List A)) : Type 0 where

@@ -31,14 +31,14 @@ fn move_by(way: Way, set: Set, width: u32, table: &mut [u16], src: &[u8], dst: &
         Moved::Refused(x) => Moved::Refused(x),
         Moved::Done => {
             match way {
-                Way::Interleaver => movers::symbols::gather_by(
+                Way::Interleaver => symbol_movers::gather_by(
                     table,
                     set.n as usize,
                     width as usize,
                     src,
                     dst,
                 ),
-                Way::Deinterleaver => movers::symbols::scatter_by(
+                Way::Deinterleaver => symbol_movers::scatter_by(
                     table,
                     set.n as usize,
                     width as usize,

@@ -5,7 +5,7 @@ use mathlib.Core.Path.{_≡_, _∙_, ap, sym, refl, subst}
 use mathlib.Core.List.{List, [], _∷_}
 use native.Mathlib.Omega.{arith}
 use lib.ListN.{length}
-use Rattle.words.specs.Appended.{appended, Appended}
+use Rattle.lines.specs.Appended.{appended, Appended}
 
 -- how a word is shown
 abbrev pub shown : List ℕ → List ℕ

@@ -1,7 +1,4 @@
-pub mod Appended
-pub mod Decimal
 pub mod Gathered
 pub mod Joined
 pub mod Room
 pub mod Spelled
-pub mod Words

@@ -10,9 +10,9 @@ use borrow.Author.Tests.{ne-eqb, lt-ltb, le-ltb}
 use lib.Dec.{ltb}
 use lib.ListN.{length, length-append}
 use Rattle.io.specs.Digits.{glyph, digits}
-use Rattle.words.specs.declared.number.Number.{Number}
-use Rattle.words.specs.declared.number.Number.the-variants.{Value, Wrong}
-use Rattle.words.specs.Decimal.{digitOf, readFrom, saidBy}
+use Rattle.numbers.specs.declared.Number.{Number}
+use Rattle.numbers.specs.declared.Number.the-variants.{Value, Wrong}
+use Rattle.numbers.specs.Decimal.{digitOf, readFrom, saidBy}
 
 -- a digit's glyph says the digit
 glyph-says : (d : ℕ) → d < 10 → digitOf (glyph d) ≡ d

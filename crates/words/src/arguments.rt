@@ -1,8 +1,8 @@
 // The program's arguments, as a line.
-use super::line::ROOM;
-use super::line::append;
+use lines::ROOM;
+use lines::append;
 ghost use Prim.Native.Nat.{_≤_};
-ghost use Rattle.words.specs.Appended.{Appended};
+ghost use Rattle.lines.specs.Appended.{Appended};
 ghost use Rattle.words.specs.Joined.{shown, WithArgument, Joined};
 
 // A line with a word after it. One that is empty is put as a question mark, which no command takes.

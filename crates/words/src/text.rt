@@ -1,6 +1,6 @@
 // Text that is gathered before it is written: a system call for each part of a line would cost more than the line.
-use super::line::first;
 use libc::STDOUT_FILENO;
+use lines::first;
 ghost use Rattle.words.specs.Gathered.{Put, PutNumber};
 
 // The room that text is gathered in.

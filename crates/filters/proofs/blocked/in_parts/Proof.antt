@@ -1,6 +1,6 @@
 use native.Mathlib.Nat.{mul-le-mul}
 use Prim.Native.Nat.{_*_, _≤_}
-use Rattle.words.specs.Words.{counted}
+use Rattle.lines.specs.Words.{counted}
 use borrow.Author.Needs.{needs}
 use Rattle.filters.proofs.blocked.in_parts.Statement.{statement}
 use Rattle.filters.proofs.blocked.in_parts.Tie as tie

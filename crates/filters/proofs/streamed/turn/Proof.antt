@@ -1,4 +1,4 @@
-use Rattle.words.specs.Words.{counted}
+use Rattle.lines.specs.Words.{counted}
 use borrow.Author.Needs.{needs}
 use Rattle.filters.proofs.streamed.turn.Statement.{statement}
 use Rattle.filters.proofs.streamed.turn.Tie as tie

@@ -1,4 +1,4 @@
-use Rattle.words.specs.Words.{counted}
+use Rattle.lines.specs.Words.{counted}
 use borrow.Author.Needs.{needs}
 use Rattle.pages.proofs.lists.walk.Statement.{statement}
 use Rattle.pages.proofs.lists.walk.Tie as tie

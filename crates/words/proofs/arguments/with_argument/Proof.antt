@@ -8,7 +8,7 @@ use Rattle.words.proofs.arguments.with_argument.Reads as reads
 use Rattle.words.proofs.arguments.with_argument.Lts as lts
 use Rattle.os.proofs.arg.Reads as arg-reads
 use Rattle.words.proofs.arguments.with_word.Reads as with-word-reads
-use Rattle.words.proofs.line.append.Reads as append-reads
+use Rattle.lines.proofs.append.Reads as append-reads
 
 slice-aggregate-arg : tie.Need-slice-aggregate-arg
 slice-aggregate-arg c = search needs

@@ -5,7 +5,7 @@ use Rattle.words.proofs.arguments.with_word.Statement.{statement}
 use Rattle.words.proofs.arguments.with_word.Tie as tie
 use Rattle.words.proofs.arguments.with_word.Reads as reads
 use Rattle.words.proofs.arguments.with_word.Lts as lts
-use Rattle.words.proofs.line.append.Reads as append-reads
+use Rattle.lines.proofs.append.Reads as append-reads
 
 slice-aggregate-append : tie.Need-slice-aggregate-append
 slice-aggregate-append c = search needs

@@ -1,0 +1,2 @@
+pub mod Groups
+pub mod Grouped
