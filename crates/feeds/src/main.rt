@@ -193,7 +193,8 @@ fn name(way: Way) {
     match way {
         Way::Interleaver => io::write_all(STDOUT_FILENO, b"interleaver"),
         Way::Deinterleaver => io::write_all(STDOUT_FILENO, b"deinterleaver"),
-    };
+    }
+    ;
 }
 
 fn report(way: Way, t: Tally, checksum: u64, differences: u64) {
