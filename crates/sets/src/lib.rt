@@ -24,7 +24,7 @@ pub enum Verdict {
     Refused(Refusal),
 }
 
-// The kinds of interleaver that profiles are of: one rule, and one crate, for each. (crate walks: src/ has a file for each.)
+// The kinds of interleaver that profiles are of: one rule for each. (crate families: src/ has a file for each.)
 pub enum Family {
     Carrier,
     Turbo,

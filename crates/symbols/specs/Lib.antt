@@ -2,6 +2,5 @@ pub mod Wide
 pub mod Answer
 pub mod Passed
 pub mod Laws
-pub mod One
 pub mod Blind
 pub mod Refusals

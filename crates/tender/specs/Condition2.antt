@@ -62,7 +62,7 @@ served-address way s x l h = address-served way s x (admits s .0 l) h
 pub served-block : (s : Set) {i o : ℕ} → Listed s → i ≡ s .n → o ≡ s .n → movedOf s (s .n) i o ≡ done tt
 served-block s l i o = block-served s (s .n) (admits s .0 l) i o
 
--- L: output t holds input L(t). M: input k goes to output M(k) (crate walks, specs/Rules.antt, by family)
+-- L: output t holds input L(t). M: input k goes to output M(k) (crate families, specs/Rules.antt, by family)
 abbrev pub L : Set → ℕ → ℕ
 L s = rules.L s
 

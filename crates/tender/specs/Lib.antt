@@ -1,5 +1,6 @@
 pub mod Condition1
 pub mod Condition2
+pub mod One
 pub mod Symbols
 pub mod Condition3
 pub mod Turbo

@@ -14,7 +14,7 @@ use Rattle.blocks.specs.Laws.{blind-answer}
 use Rattle.symbols.specs.Answer.{movedSymbols}
 use Rattle.symbols.specs.Laws as laws
 use Rattle.symbols.specs.Blind as blindness
-use Rattle.symbols.specs.One as one
+use Rattle.tender.specs.One as one
 use Rattle.tender.specs.Condition2.{Listed, admits, L, M}
 
 -- a block of N · w bytes into as many is moved

@@ -1,5 +1,6 @@
 pub mod Turbo
 pub mod Row
+pub mod Laid
 pub mod Law
 pub mod Pads
 pub mod Walks

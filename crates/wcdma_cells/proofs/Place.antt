@@ -19,7 +19,7 @@ use Rattle.wcdma_shape.specs.Shape.{rows-pos, rows-le, prime-big}
 use Rattle.wcdma_setup.specs.Post.{shortBy}
 use Rattle.wcdma.specs.Turbo.{entry, entryWith, address}
 use Rattle.wcdma.specs.Law.{col-lt}
-use Rattle.wcdma_rows.specs.Post.{nextCol, Exponents}
+use Rattle.wcdma.specs.Laid.{nextCol, Exponents}
 use Rattle.wcdma_cells.specs.Post.{entryAt}
 
 module _ (k : ℕ) where

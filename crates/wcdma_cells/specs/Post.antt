@@ -16,7 +16,7 @@ use Rattle.wcdma_shape.specs.Powers.{power, root}
 use Rattle.wcdma_shape.specs.Post.{ShapeOf}
 use Rattle.wcdma_setup.specs.Post.{shortBy}
 use Rattle.wcdma.specs.Turbo.{address, turboRule}
-use Rattle.wcdma_rows.specs.Post.{Exponents, Rows}
+use Rattle.wcdma.specs.Laid.{Exponents, Rows}
 
 -- S, each power less what a column's number is less, with the rows
 pub record Tables (k : ℕ) (s base fall : List ℕ) : Type 0 where

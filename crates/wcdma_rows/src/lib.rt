@@ -2,7 +2,8 @@
 use wcdma_shape::Shape;
 ghost use mathlib.Core.Path.{_≡_};
 ghost use Prim.Native.Nat.{_*_, _%_, _<_, _≤_};
-ghost use Rattle.wcdma_rows.specs.Post.{nextCol, Exponents, Rows, LayIn};
+ghost use Rattle.wcdma.specs.Laid.{nextCol, Exponents, Rows};
+ghost use Rattle.wcdma_rows.specs.Post.{LayIn};
 
 fn wide32(x: u32) -> usize
     ensures { λ r. ⌜ r ≡ x ⌝ }

@@ -23,7 +23,7 @@ use Rattle.wcdma_setup.specs.Post.{NumbersOf, shortBy}
 use Rattle.wcdma.specs.Turbo.{addresses, turboL, turboRule}
 use Rattle.wcdma.specs.Law.{as-many, turbo-lawful}
 use Rattle.wcdma.specs.Walks.{walk-whole}
-use Rattle.wcdma_rows.specs.Post.{Rows, Exponents}
+use Rattle.wcdma.specs.Laid.{Rows, Exponents}
 use Rattle.wcdma_cells.specs.Post.{FillIn, WentOf}
 use Rattle.wcdma_walk.specs.Post.{SearchOf, ByIn}
 

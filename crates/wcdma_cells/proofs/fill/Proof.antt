@@ -15,7 +15,7 @@ use Rattle.wcdma_shape.specs.Rectangle.{cells, cols}
 use Rattle.wcdma_shape.specs.Shape.{cells-le, cols-high, prime-small, product-small, rows-le, rows-pos}
 use Rattle.wcdma_cells.proofs.Cell.{cell-on, column-fits, column-on, place-on}
 use Rattle.wcdma_cells.proofs.Place.{Place, column-le, exponents-to, exponents-top, place-column, place-down, place-over}
-use Rattle.wcdma_rows.specs.Post.{Exponents}
+use Rattle.wcdma.specs.Laid.{Exponents}
 use Rattle.wcdma.specs.Turbo.{address}
 use Rattle.wcdma_cells.proofs.fill.Statement.{statement}
 use Rattle.wcdma_cells.proofs.fill.Tie as tie

@@ -9,7 +9,7 @@ use Rattle.wcdma_shape.specs.Shape.{cells-le}
 use Rattle.wcdma_cells.proofs.Cell.{address-is, exponent-in, cell-inside, exponent-small, goes-put, goes-skip, prime-pos, raised-is, row-small}
 use Rattle.wcdma_cells.proofs.Place.{exponents-down}
 use Rattle.wcdma.specs.Law.{address-lt}
-use Rattle.wcdma_rows.specs.Post.{Exponents}
+use Rattle.wcdma.specs.Laid.{Exponents}
 use Rattle.wcdma.specs.Turbo.{address}
 use Rattle.wcdma_cells.proofs.one_cell.Statement.{statement}
 use Rattle.wcdma_cells.proofs.one_cell.Tie as tie

@@ -7,7 +7,7 @@ use native.Mathlib.Omega.{arith}
 use Rattle.wcdma_shape.specs.Rectangle.{rows}
 use Rattle.wcdma_shape.specs.Shape.{rows-le}
 use Rattle.wcdma_cells.proofs.Place.{exponents-top}
-use Rattle.wcdma_rows.specs.Post.{Exponents}
+use Rattle.wcdma.specs.Laid.{Exponents}
 use Rattle.wcdma_cells.specs.Post.{Goes}
 use Rattle.wcdma_cells.proofs.one_column.Statement.{statement}
 use Rattle.wcdma_cells.proofs.one_column.Tie as tie

@@ -13,7 +13,8 @@ use Rattle.wcdma_shape.specs.Rectangle.{cols, prime, rows}
 use Rattle.wcdma_shape.specs.Shape.{cols-high, prime-big, prime-small, product-small, rows-le}
 use Rattle.wcdma_rows.proofs.Laid.{fall-is, start-is}
 use Rattle.wcdma.specs.Law.{row-lt}
-use Rattle.wcdma_rows.specs.Post.{LayIn, nextCol}
+use Rattle.wcdma.specs.Laid.{nextCol}
+use Rattle.wcdma_rows.specs.Post.{LayIn}
 use Rattle.wcdma_rows.proofs.lay_out.Statement.{statement}
 use Rattle.wcdma_rows.proofs.lay_out.Tie as tie
 
