@@ -10,7 +10,7 @@ use lib.ListN.{length}
 use Rattle.laws.specs.declared.Way.{Way}
 use Rattle.laws.specs.Outcome.{done, refused, Line, Ruling, clear, stopped, first, settle, judged, after, First, first-stopped, stopped-first}
 use Rattle.sets.specs.declared.Set.{Set}
-use Rattle.sets.specs.Size.{sizeOf}
+use Rattle.sets.specs.Set.{sizeOf}
 use Rattle.sets.specs.Beside.{besideLines}
 use Rattle.sets.specs.Verdict.{sizeLines, setLines, verdictOf, refusal, refusal-number}
 use Rattle.walks.specs.declared.Walk.{Walk}

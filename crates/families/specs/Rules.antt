@@ -9,9 +9,9 @@ use Rattle.laws.specs.declared.Way.{Way}
 use Rattle.laws.specs.declared.Way.the-variants.{Interleaver, Deinterleaver}
 use Rattle.laws.specs.Walk.{Rule, inWay, Lawful, lawful-in}
 use Rattle.sets.specs.declared.Set.{Set}
-use Rattle.sets.specs.declared.Family.{Family}
-use Rattle.sets.specs.declared.Family.the-variants.{Carrier, Turbo}
-use Rattle.sets.specs.Profiles.{familyOf, rowsOf, groupOf}
+use Rattle.sizes.specs.declared.Family.{Family}
+use Rattle.sizes.specs.declared.Family.the-variants.{Carrier, Turbo}
+use Rattle.sets.specs.Set.{familyOf, rowsOf, groupOf}
 use Rattle.sets.specs.Verdict.{verdictOf}
 use Rattle.sets.specs.Carried.{carried, turbo-size}
 use Rattle.carrier.specs.Formula.{carrierRule}

@@ -13,8 +13,8 @@ use Rattle.laws.specs.Walk.{walkCounts, leafLines, sayLeaf, LeafOf}
 use Rattle.laws.specs.Walk as along
 use Rattle.laws.specs.Leaves.{Fits, leaf-fits}
 use Rattle.sets.specs.declared.Set.{Set}
-use Rattle.sets.specs.declared.Family.{Family}
-use Rattle.sets.specs.Profiles.{familyOf}
+use Rattle.sizes.specs.declared.Family.{Family}
+use Rattle.sets.specs.Set.{familyOf}
 use Rattle.sets.specs.Verdict.{verdictOf}
 use Rattle.families.specs.Rules.{ruleIn, barred, lawful-way}
 

@@ -2,7 +2,7 @@
 // its leaves; specs/Rules.antt has its rule. Inner functions: whoever calls them has tested the set.
 ghost use mathlib.Core.Path.{_≡_};
 ghost use Rattle.laws.specs.Walk.{SingleOf};
-ghost use Rattle.sets.specs.Profiles.{familyOf};
+ghost use Rattle.sets.specs.Set.{familyOf};
 ghost use Rattle.families.specs.Rules.{ruleOf, ruleIn, barred};
 ghost use Rattle.families.specs.Taken.{Accepted, WalkLeaf};
 
@@ -12,8 +12,8 @@ mod turbo; // turbo.rt: the turbo family
 use laws::Leaf;
 use laws::Single;
 use laws::Way;
-use sets::Family;
 use sets::Set;
+use sizes::Family;
 
 // Whether a walk is not had: M of a family whose M is not walked.
 pub fn is_barred(way: Way, set: Set) -> bool

@@ -1,5 +1,5 @@
 -- Exactly the sets of a listed size, with what they must have beside it, are accepted: no line of the test applies to a size if and only
--- if it stands in the table that specs/Profiles.antt counts out. Each way goes by what specs/Listed.antt shows of every profile.
+-- if it stands in the table that crate sizes counts out (specs/Profiles.antt). Each way goes by what specs/Listed.antt there shows of every profile.
 use mathlib.Core.Path.{_≡_, refl, sym, subst}
 use mathlib.Core.Bool.{true, _&&_}
 use mathlib.Core.Logic.{_↔_}
@@ -13,9 +13,11 @@ use Rattle.laws.specs.Told.{NoneTrue, told-clear, clear-join, clear-parts}
 use Rattle.laws.specs.Run.{run, run-mem}
 use Rattle.laws.specs.Members.{both, every, at-each, by-member, oneOf, one-of}
 use Rattle.sets.specs.declared.Set.{Set}
-use Rattle.sets.specs.Size.{Size, size, sizeOf, some, some-of, Row, Profile, sizesOf, in-rows, in-all, of-all}
-use Rattle.sets.specs.Profiles.{profiles, carriers, turbos, listedSizes, lastProfile, profileListed, bitsListed, sizeListed}
-use Rattle.sets.specs.Listed.{HasEach, Agrees, all-listed}
+use Rattle.sizes.specs.declared.Size.{Size}
+use Rattle.sizes.specs.Size.{size, some, some-of, Row, Profile, sizesOf, in-rows, in-all, of-all}
+use Rattle.sets.specs.Set.{sizeOf}
+use Rattle.sizes.specs.Profiles.{profiles, carriers, turbos, listedSizes, lastProfile, profileListed, bitsListed, sizeListed}
+use Rattle.sizes.specs.Listed.{HasEach, Agrees, all-listed}
 use Rattle.sets.specs.Beside.{besideLines, besideSentences, beside-told}
 use Rattle.sets.specs.Verdict.{sizeLines, setLines, refusal, verdictOf}
 

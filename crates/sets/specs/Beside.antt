@@ -3,8 +3,8 @@ use mathlib.Core.List.{List, [], List·Memᴰ}
 use Rattle.laws.specs.Outcome.{Line}
 use Rattle.laws.specs.Sentences.{Sentence, Told, none}
 use Rattle.sets.specs.declared.Set.{Set}
-use Rattle.sets.specs.Size.{sizeOf}
-use Rattle.sets.specs.Profiles.{listedSizes}
+use Rattle.sets.specs.Set.{sizeOf}
+use Rattle.sizes.specs.Profiles.{listedSizes}
 
 abbrev pub besideLines : Set → List Line
 besideLines s = []

@@ -13,12 +13,15 @@ use Rattle.laws.specs.Outcome.{done}
 use Rattle.laws.specs.Members.{both, every, at-each}
 use Rattle.laws.specs.Sized.{Sized}
 use Rattle.sets.specs.declared.Set.{Set}
-use Rattle.sets.specs.declared.Family.{Family}
-use Rattle.sets.specs.declared.Family.the-variants.{Carrier, Turbo}
-use Rattle.sets.specs.Size.{Size, size, sizeOf, allSizes, either-all}
-use Rattle.sets.specs.Profiles.{familyBy, familyOf, rowsBy, rowsOf, groupBy, groupOf}
-use Rattle.sets.specs.Profiles.{turboSizes, carriers, turbos, profiles, listedSizes}
-use Rattle.sets.specs.Listed.{turbo-range}
+use Rattle.sizes.specs.declared.Family.{Family}
+use Rattle.sizes.specs.declared.Family.the-variants.{Carrier, Turbo}
+use Rattle.sizes.specs.declared.Size.{Size}
+use Rattle.sizes.specs.Size.{size, allSizes, either-all}
+use Rattle.sets.specs.Set.{sizeOf}
+use Rattle.sizes.specs.Profiles.{familyBy, rowsBy, groupBy}
+use Rattle.sets.specs.Set.{familyOf, rowsOf, groupOf}
+use Rattle.sizes.specs.Profiles.{turboSizes, carriers, turbos, profiles, listedSizes}
+use Rattle.sizes.specs.Listed.{turbo-range}
 use Rattle.sets.specs.Verdict.{verdictOf}
 use Rattle.sets.specs.Admits.{accepted-listed}
 

@@ -1,6 +1,4 @@
-pub mod Size
-pub mod Profiles
-pub mod Listed
+pub mod Set
 pub mod Beside
 pub mod Verdict
 pub mod Admits

@@ -13,8 +13,10 @@ use Rattle.laws.specs.Sentences.{Sentence, sentence, FirstTrue, Told, none, sai
 use Rattle.laws.specs.Told.{told-under, told-unless, told-join}
 use Rattle.sets.specs.declared.Set.{Set}
 use Rattle.sets.specs.declared.Refusal.{Refusal}
-use Rattle.sets.specs.Size.{Size, size, sizeOf}
-use Rattle.sets.specs.Profiles.{listedSizes, lastProfile, profileListed, bitsListed}
+use Rattle.sizes.specs.declared.Size.{Size}
+use Rattle.sizes.specs.Size.{size}
+use Rattle.sets.specs.Set.{sizeOf}
+use Rattle.sizes.specs.Profiles.{listedSizes, lastProfile, profileListed, bitsListed}
 use Rattle.sets.specs.Beside.{besideSentences, beside-told}
 use Rattle.sets.specs.Verdict.{sizeLines, setLines, refusal, verdictOf, refusal-number}
 use Rattle.sets.specs.Admits.{some-listed, listed-passing, passing-listed, clear-listed}

@@ -8,8 +8,9 @@ use Rattle.sets.specs.declared.Set.{Set}
 use Rattle.sets.specs.declared.Refusal.{Refusal}
 use Rattle.sets.specs.declared.Verdict.{Verdict}
 use Rattle.sets.specs.declared.Verdict.the-variants.{Accepted, Refused}
-use Rattle.sets.specs.Size.{Size, sizeOf}
-use Rattle.sets.specs.Profiles.{profileListed, bitsListed, sizeListed}
+use Rattle.sizes.specs.declared.Size.{Size}
+use Rattle.sets.specs.Set.{sizeOf}
+use Rattle.sizes.specs.Profiles.{profileListed, bitsListed, sizeListed}
 use Rattle.sets.specs.Beside.{besideLines}
 
 -- 1: the profile isn't 1 to 5. 2: the bits aren't listed for the profile. 3: N isn't listed for that profile and those bits

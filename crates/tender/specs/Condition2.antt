@@ -14,9 +14,11 @@ use Rattle.laws.specs.Perm.{Perm}
 use Rattle.laws.specs.Told.{NoneTrue}
 use Rattle.laws.specs.Walk.{Rule}
 use Rattle.sets.specs.declared.Set.{Set}
-use Rattle.sets.specs.Size.{sizeOf, sizesOf}
-use Rattle.sets.specs.Profiles.{rowsOf, groupOf, ofdm, ofdma, wlan, bench, turbo, listedSizes}
-use Rattle.sets.specs.Listed.{counts}
+use Rattle.sizes.specs.Size.{sizesOf}
+use Rattle.sets.specs.Set.{sizeOf}
+use Rattle.sizes.specs.Profiles.{ofdm, ofdma, wlan, bench, turbo, listedSizes}
+use Rattle.sets.specs.Set.{rowsOf, groupOf}
+use Rattle.sizes.specs.Listed.{counts}
 use Rattle.sets.specs.Beside.{besideSentences}
 use Rattle.sets.specs.Verdict.{verdictOf}
 use Rattle.sets.specs.Admits as admitted

@@ -16,7 +16,7 @@ use Rattle.laws.specs.Ends.{EndsAt, ends-once}
 use Rattle.laws.specs.Pieces as pieces
 use Rattle.laws.specs.Walk.{Rule}
 use Rattle.sets.specs.declared.Set.{Set}
-use Rattle.sets.specs.Profiles.{rowsOf, groupOf}
+use Rattle.sets.specs.Set.{rowsOf, groupOf}
 use Rattle.sets.specs.Carried.{five-turbo, other-carrier}
 use Rattle.carrier.specs.Formula.{carrierL, carrierM}
 use Rattle.wcdma_shape.specs.Rectangle.{cells}

@@ -13,7 +13,7 @@ use Rattle.laws.specs.Members.{All}
 use Rattle.laws.specs.Once.{inside}
 use Rattle.laws.specs.Position.{position}
 use Rattle.sets.specs.declared.Set.{Set}
-use Rattle.sets.specs.Profiles.{familyOf, rowsOf, groupOf}
+use Rattle.sets.specs.Set.{familyOf, rowsOf, groupOf}
 use Rattle.carrier.specs.Formula.{firstStep, secondStep, carrierM, backStep, lastStep, carrierL}
 use Rattle.wcdma_shape.specs.Rectangle.{rows, primes, firstPrime, prime, colsOf, cols, cells}
 use Rattle.wcdma_shape.specs.Powers.{power, firstOne, generates, rootFrom, root}

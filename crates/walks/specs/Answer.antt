@@ -10,7 +10,7 @@ use Rattle.laws.specs.Walk.{leafLines, singleLines}
 use Rattle.laws.specs.Walk as along
 use Rattle.sets.specs.declared.Set.{Set}
 use Rattle.sets.specs.declared.Refusal.{Refusal}
-use Rattle.sets.specs.Profiles.{familyOf}
+use Rattle.sets.specs.Set.{familyOf}
 use Rattle.sets.specs.Verdict.{setLines, refusal}
 use Rattle.walks.specs.declared.Walk.{Walk}
 use Rattle.walks.specs.declared.Walked.{Walked}

@@ -13,7 +13,7 @@ use Rattle.laws.specs.Walk as along
 use Rattle.laws.specs.Leaves.{carry, carry-judged}
 use Rattle.sets.specs.declared.Set.{Set}
 use Rattle.sets.specs.declared.Refusal.{Refusal}
-use Rattle.sets.specs.Profiles.{familyOf}
+use Rattle.sets.specs.Set.{familyOf}
 use Rattle.sets.specs.Verdict.{setLines, refusal, verdictOf}
 use Rattle.walks.specs.declared.Walk.{Walk}
 use Rattle.families.specs.Rules.{ruleOf, ruleIn, barred}

@@ -12,9 +12,9 @@ use Rattle.laws.specs.Sentences.{Sentence, sentence, FirstTrue, Told, none, mor
 use Rattle.laws.specs.Told.{told-join}
 use Rattle.laws.specs.Walk.{Rule}
 use Rattle.sets.specs.declared.Set.{Set}
-use Rattle.sets.specs.declared.Family.{Family}
-use Rattle.sets.specs.declared.Family.the-variants.{Carrier, Turbo}
-use Rattle.sets.specs.Profiles.{familyOf}
+use Rattle.sizes.specs.declared.Family.{Family}
+use Rattle.sizes.specs.declared.Family.the-variants.{Carrier, Turbo}
+use Rattle.sets.specs.Set.{familyOf}
 use Rattle.sets.specs.Carried.{five-turbo, turbo-five}
 use Rattle.sets.specs.Verdict.{refusal}
 use Rattle.sets.specs.Refusals.{setSentences, set-told, refusals-apart}

@@ -9,9 +9,9 @@ use Rattle.laws.specs.declared.Way.{Way}
 use Rattle.laws.specs.declared.Way.the-variants.{Interleaver, Deinterleaver}
 use Rattle.laws.specs.Outcome.{done, clear, first}
 use Rattle.sets.specs.declared.Set.{Set}
-use Rattle.sets.specs.declared.Family.{Family}
-use Rattle.sets.specs.declared.Family.the-variants.{Carrier, Turbo}
-use Rattle.sets.specs.Profiles.{familyOf}
+use Rattle.sizes.specs.declared.Family.{Family}
+use Rattle.sizes.specs.declared.Family.the-variants.{Carrier, Turbo}
+use Rattle.sets.specs.Set.{familyOf}
 use Rattle.sets.specs.Carried.{other-carrier}
 use Rattle.wcdma_setup.specs.Found.{search-ends}
 use Rattle.walks.specs.declared.Walk.{Walk}

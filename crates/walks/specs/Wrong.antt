@@ -7,7 +7,7 @@ use Rattle.laws.specs.Keep.{wrote}
 use Rattle.laws.specs.declared.Way.{Way}
 use Rattle.laws.specs.declared.Way.the-variants.{Interleaver}
 use Rattle.laws.specs.Walk as along
-use Rattle.sets.specs.Profiles.{familyOf, rowsOf, groupOf}
+use Rattle.sets.specs.Set.{familyOf, rowsOf, groupOf}
 use Rattle.carrier.specs.Formula.{backStep, lastStep, carrierL}
 use Rattle.walks.specs.declared.Walk.{Walk}
 use Rattle.families.specs.Rules.{ruleOf}

@@ -7,7 +7,7 @@ ghost use lib.ListN.{length};
 ghost use Rattle.laws.specs.declared.Way.the-variants.{Interleaver, Deinterleaver};
 ghost use Rattle.laws.specs.Walk.{sayLeaf, saySingle};
 ghost use Rattle.laws.specs.Leaves.{Fits, Small, carry};
-ghost use Rattle.sets.specs.Profiles.{familyOf};
+ghost use Rattle.sets.specs.Set.{familyOf};
 ghost use Rattle.sets.specs.Verdict.{refusal};
 ghost use Rattle.families.specs.Rules.{barred};
 ghost use Rattle.walks.specs.Answer.{walkedOf, sliceOf, foundOf, sayWalked, sayFound};

@@ -1,16 +1,12 @@
--- `sets::family_of` is the family.
-use borrow.Author.Tests.{eq-eqb, ne-eqb}
-use Rattle.sets.specs.Profiles.{familyOf}
+-- `sets::family_of` is the family of its profile.
+use borrow.Author.Needs.{needs}
+use Rattle.sets.specs.Set.{familyOf}
 use Rattle.sets.proofs.family_of.Statement.{statement}
 use Rattle.sets.proofs.family_of.Tie as tie
 
 returns : tie.Need-returns
 unfolding familyOf
-returns c = simp (eq-eqb _ 5 (c .if1 .taken))
-
-returns-2 : tie.Need-returns-2
-unfolding familyOf
-returns-2 c = simp (ne-eqb _ 5 (c .if1 .left))
+returns c = c .family-by .ensures
 
 pub family-of-spec : {M : Type 1} → statement M
-family-of-spec = tie.close (tie.spec returns returns-2)
+family-of-spec = tie.close (tie.spec (λ c κs. search needs) returns)

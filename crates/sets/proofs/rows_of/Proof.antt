@@ -1,16 +1,12 @@
--- `sets::rows_of` is d.
-use borrow.Author.Tests.{eq-eqb, ne-eqb}
-use Rattle.sets.specs.Profiles.{rowsOf}
+-- `sets::rows_of` is d of its profile.
+use borrow.Author.Needs.{needs}
+use Rattle.sets.specs.Set.{rowsOf}
 use Rattle.sets.proofs.rows_of.Statement.{statement}
 use Rattle.sets.proofs.rows_of.Tie as tie
 
 returns : tie.Need-returns
 unfolding rowsOf
-returns c = simp (eq-eqb _ 1 (c .if1 .taken))
-
-returns-2 : tie.Need-returns-2
-unfolding rowsOf
-returns-2 c = simp (ne-eqb _ 1 (c .if1 .left))
+returns c = c .rows-by .ensures
 
 pub rows-of-spec : {M : Type 1} → statement M
-rows-of-spec = tie.close (tie.spec returns returns-2)
+rows-of-spec = tie.close (tie.spec (λ c κs. search needs) returns)

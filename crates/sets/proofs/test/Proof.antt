@@ -5,7 +5,7 @@ use borrow.Author.Needs.{needs}
 use borrow.Author.Tests.{not-true, not-false}
 use Rattle.laws.specs.Outcome.{refused}
 use Rattle.sets.specs.Verdict.{verdictOf, setLines}
-use Rattle.sets.specs.Listed.{bits-small}
+use Rattle.sizes.specs.Listed.{bits-small}
 use Rattle.sets.proofs.test.Statement.{statement}
 use Rattle.sets.proofs.test.Tie as tie
 

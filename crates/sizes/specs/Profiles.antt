@@ -6,32 +6,23 @@ use Prim.Native.Nat.{ℕ, _+_, _*_}
 use lib.Dec.{leb, eqb}
 use Rattle.laws.specs.Run.{run}
 use Rattle.laws.specs.Members.{oneOf, multiple}
-use Rattle.sets.specs.declared.Set.{Set}
-use Rattle.sets.specs.declared.Family.{Family}
-use Rattle.sets.specs.declared.Family.the-variants.{Carrier, Turbo}
-use Rattle.sets.specs.Size.{Size, row, Profile, profile, multiples, allSizes}
+use Rattle.sizes.specs.declared.Size.{Size}
+use Rattle.sizes.specs.declared.Family.{Family}
+use Rattle.sizes.specs.declared.Family.the-variants.{Carrier, Turbo}
+use Rattle.sizes.specs.Size.{row, Profile, profile, multiples, allSizes}
 
 -- the family of a profile: 5 (3GPP TS 25.212) is a turbo interleaver, 1 to 4 are carrier interleavers. For other profiles it is not read
 abbrev pub familyBy : ℕ → Family
 familyBy p = cond (eqb p 5) Turbo Carrier
 
-unfoldable pub familyOf : Set → Family
-familyOf s = familyBy (s .profile)
-
 -- d of a carrier profile: 12 for 1 (IEEE 802.16 OFDM), 16 for 2, 3 and 4. For other profiles it is not read
 abbrev pub rowsBy : ℕ → ℕ
 rowsBy p = cond (eqb p 1) 12 16
-
-unfoldable pub rowsOf : Set → ℕ
-rowsOf s = rowsBy (s .profile)
 
 -- s of a carrier profile: 1, 1, 2, 3 for bits 1, 2, 4, 6, which is max(N_BPSC/2, 1) of IEEE 802.11, N_BPSC being the bits per carrier
 -- (`group-standard` in specs/Listed.antt). For other bits it is not read
 abbrev pub groupBy : ℕ → ℕ
 groupBy b = cond (eqb b 6) 3 (cond (eqb b 4) 2 1)
-
-unfoldable pub groupOf : Set → ℕ
-groupOf s = groupBy (s .bits)
 
 -- the table, counted out
 

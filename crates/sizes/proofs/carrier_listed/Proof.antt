@@ -1,14 +1,14 @@
--- `sets::carrier_listed` is the test of a carrier profile's size, profile by profile.
+-- `sizes::carrier_listed` is the test of a carrier profile's size, profile by profile.
 use Prim.Native.Nat.{ℕ, _*_}
 use mathlib.Core.Path.{sym, ap, _∙_}
 use mathlib.Core.Bool.{or-false}
 use borrow.Author.Needs.{needs}
 use borrow.Author.Tests.{eq-eqb, ne-eqb}
 use Rattle.laws.specs.Members.{multiple}
-use Rattle.sets.specs.Profiles.{carrierListed}
-use Rattle.sets.specs.Listed.{bench-by}
-use Rattle.sets.proofs.carrier_listed.Statement.{statement}
-use Rattle.sets.proofs.carrier_listed.Tie as tie
+use Rattle.sizes.specs.Profiles.{carrierListed}
+use Rattle.sizes.specs.Listed.{bench-by}
+use Rattle.sizes.proofs.carrier_listed.Statement.{statement}
+use Rattle.sizes.proofs.carrier_listed.Tie as tie
 
 mul-result : tie.Need-mul-result
 mul-result c = search needs
@@ -46,8 +46,8 @@ returns-3 : tie.Need-returns-3
 unfolding carrierListed
 returns-3 c = simp (ne-eqb _ 1 (c .before .before .if1 .left), ne-eqb _ 2 (c .before .if2 .left), eq-eqb _ 3 (c .if3 .taken))
 
-group-of-requires : tie.Need-group-of-requires
-group-of-requires c κs = search needs
+group-by-requires : tie.Need-group-by-requires
+group-by-requires c κs = search needs
 
 mul-unit : tie.Need-mul-unit
 mul-unit c = search needs
@@ -60,7 +60,7 @@ returns-4 c =
     let g = c .before in
     let i = g .before in
     c .multiple-of2 .ensures
-    ∙ ap (λ (u : ℕ). multiple (16 * u) 1536 (i .before .before .before .args .set .n)) (g .group-of .ensures .0)
+    ∙ ap (λ (u : ℕ). multiple (16 * u) 1536 (i .before .before .before .args .size .n)) (g .group-by .ensures .0)
     ∙ sym (bench-by _ (i .before .before .if1 .left) (i .before .if2 .left) (i .if3 .left))
 
 pub carrier-listed-spec : {M : Type 1} → statement M
@@ -78,7 +78,7 @@ carrier-listed-spec =
     returns-2
     mul-result-6
     returns-3
-    group-of-requires
+    group-by-requires
     mul-unit
     multiple-of-requires-2
     returns-4)

@@ -7,19 +7,10 @@ use mathlib.Core.List.{List, [], _∷_, _++_, map, List·Memᴰ, List·Memᴰ·h
 use mathlib.Core.List.{List·Memᴰ·append-cases, Memᴰ·append-left, Memᴰ·append-right, Memᴰ·map}
 use Prim.Native.Nat.{ℕ, _*_}
 use Rattle.laws.specs.Run.{run}
-use Rattle.sets.specs.declared.Set.{Set}
-
-pub record Size : Type 0 where
-  pub profile : ℕ
-  pub bits : ℕ
-  pub n : ℕ
+use Rattle.sizes.specs.declared.Size.{Size}
 
 abbrev pub size : ℕ → ℕ → ℕ → Size
 size p b n = record { profile = p; bits = b; n = n }
-
--- the size of a set
-abbrev pub sizeOf : Set → Size
-sizeOf s = size (s .profile) (s .bits) (s .n)
 
 -- a row of a profile: bits per carrier, and the sizes N with them
 pub record Row : Type 0 where

@@ -12,12 +12,12 @@ use lib.ListN.{length, length-map}
 use borrow.Author.Tests.{le-leb, leb-true, ltb-true, eqb-true, ne-eqb}
 use Rattle.laws.specs.Run.{length-run, run-mem, mem-run}
 use Rattle.laws.specs.Members.{both, every, at-each, All, oneOf, one-of, multiple, multiple-of}
-use Rattle.sets.specs.declared.Set.{Set}
-use Rattle.sets.specs.declared.Family.{Family}
-use Rattle.sets.specs.declared.Family.the-variants.{Carrier, Turbo}
-use Rattle.sets.specs.Size.{Size, size, sizeOf, some, Row, Profile, multiples, sizesOf}
-use Rattle.sets.specs.Profiles.{ofdm, ofdma, wlan, bench, turboSizes, turbo, carriers, turbos, profiles}
-use Rattle.sets.specs.Profiles.{familyBy, familyOf, groupBy, groupOf, profileListed, bitsBy, bitsListed, carrierListed, sizeBy, sizeListed}
+use Rattle.sizes.specs.declared.Size.{Size}
+use Rattle.sizes.specs.declared.Family.{Family}
+use Rattle.sizes.specs.declared.Family.the-variants.{Carrier, Turbo}
+use Rattle.sizes.specs.Size.{size, some, Row, Profile, multiples, sizesOf}
+use Rattle.sizes.specs.Profiles.{ofdm, ofdma, wlan, bench, turboSizes, turbo, carriers, turbos, profiles}
+use Rattle.sizes.specs.Profiles.{familyBy, groupBy, profileListed, bitsBy, bitsListed, carrierListed, sizeBy, sizeListed}
 
 -- all three pass
 abbrev pub passes : Size → Bool
@@ -121,20 +121,20 @@ length-turbo = ap length (append-nil (map (size 5 1) turboSizes)) ∙ length-map
 pub counts : Counts
 counts = record { ofdm-has = refl; ofdma-has = refl; wlan-has = refl; bench-has = refl; turbo-has = length-turbo }
 
--- the tests of bits and N, by the family of a set
-pub bits-by : (s : Set) {f : Family} → s .profile ≢ 2 → familyOf s ≡ f → bitsListed (sizeOf s) ≡ oneOf (s .bits) (bitsBy f)
-unfolding bitsListed familyOf
-bits-by s n e = rw (ne-eqb (s .profile) 2 n) (ap (λ (f : Family). oneOf (s .bits) (bitsBy f)) e)
+-- the tests of bits and N, by the family of a size
+pub bits-by : (z : Size) {f : Family} → z .profile ≢ 2 → familyBy (z .profile) ≡ f → bitsListed z ≡ oneOf (z .bits) (bitsBy f)
+unfolding bitsListed
+bits-by z n e = rw (ne-eqb (z .profile) 2 n) (ap (λ (f : Family). oneOf (z .bits) (bitsBy f)) e)
 
-pub size-by : (s : Set) {f : Family} → familyOf s ≡ f → sizeListed (sizeOf s) ≡ sizeBy f (sizeOf s)
-unfolding sizeListed familyOf
-size-by s e = ap (λ (f : Family). sizeBy f (sizeOf s)) e
+pub size-by : (z : Size) {f : Family} → familyBy (z .profile) ≡ f → sizeListed z ≡ sizeBy f z
+unfolding sizeListed
+size-by z e = ap (λ (f : Family). sizeBy f z) e
 
 -- of a carrier profile that is none of 1, 2, 3: that of 4
-pub bench-by : (s : Set) → s .profile ≢ 1 → s .profile ≢ 2 → s .profile ≢ 3
-    → carrierListed (sizeOf s) ≡ multiple (16 * groupOf s) 1536 (s .n)
-unfolding carrierListed groupOf
-bench-by s a b c = rw (ne-eqb (s .profile) 1 a, ne-eqb (s .profile) 2 b, ne-eqb (s .profile) 3 c)
+pub bench-by : (z : Size) → z .profile ≢ 1 → z .profile ≢ 2 → z .profile ≢ 3
+    → carrierListed z ≡ multiple (16 * groupBy (z .bits)) 1536 (z .n)
+unfolding carrierListed
+bench-by z a b c = rw (ne-eqb (z .profile) 1 a, ne-eqb (z .profile) 2 b, ne-eqb (z .profile) 3 c)
 
 -- the bits that are listed are among 1, 2, 4, 6
 bits-among : (z : Size) → bitsListed z ≡ true → List·Memᴰ (z .bits) (1 ∷ 2 ∷ 4 ∷ 6 ∷ [])
@@ -152,6 +152,5 @@ bits-small z e =
     let q = both (ltb 0 (z .bits)) (ltb (z .bits) 7) (at-each (λ b. ltb 0 b && ltb b 7) (1 ∷ 2 ∷ 4 ∷ 6 ∷ []) refl (bits-among z e)) in
     (ltb-true 0 (z .bits) (q .0), ltb-true (z .bits) 7 (q .1))
 
-pub group-standard : (s : Set) → bitsListed (sizeOf s) ≡ true → groupOf s ≡ max (s .bits / 2) 1
-unfolding groupOf
-group-standard s e = eqb-true _ _ (at-each (λ b. eqb (groupBy b) (max (b / 2) 1)) (1 ∷ 2 ∷ 4 ∷ 6 ∷ []) refl (bits-among (sizeOf s) e))
+pub group-standard : (z : Size) → bitsListed z ≡ true → groupBy (z .bits) ≡ max (z .bits / 2) 1
+group-standard z e = eqb-true _ _ (at-each (λ b. eqb (groupBy b) (max (b / 2) 1)) (1 ∷ 2 ∷ 4 ∷ 6 ∷ []) refl (bits-among z e))

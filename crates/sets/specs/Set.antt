@@ -1,0 +1,21 @@
+-- What a set is of: its size, and the family, d and s of its profile and bits.
+use Prim.Native.Nat.{ℕ}
+use Rattle.sizes.specs.declared.Size.{Size}
+use Rattle.sizes.specs.declared.Family.{Family}
+use Rattle.sizes.specs.Size.{size}
+use Rattle.sizes.specs.Profiles.{familyBy, rowsBy, groupBy}
+use Rattle.sets.specs.declared.Set.{Set}
+
+abbrev pub sizeOf : Set → Size
+sizeOf s = size (s .profile) (s .bits) (s .n)
+
+unfoldable pub familyOf : Set → Family
+familyOf s = familyBy (s .profile)
+
+-- d
+unfoldable pub rowsOf : Set → ℕ
+rowsOf s = rowsBy (s .profile)
+
+-- s
+unfoldable pub groupOf : Set → ℕ
+groupOf s = groupBy (s .bits)

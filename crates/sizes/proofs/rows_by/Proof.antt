@@ -1,0 +1,13 @@
+-- `sizes::rows_by` is d.
+use borrow.Author.Tests.{eq-eqb, ne-eqb}
+use Rattle.sizes.proofs.rows_by.Statement.{statement}
+use Rattle.sizes.proofs.rows_by.Tie as tie
+
+returns : tie.Need-returns
+returns c = simp (eq-eqb _ 1 (c .if1 .taken))
+
+returns-2 : tie.Need-returns-2
+returns-2 c = simp (ne-eqb _ 1 (c .if1 .left))
+
+pub rows-by-spec : {M : Type 1} → statement M
+rows-by-spec = tie.close (tie.spec returns returns-2)
