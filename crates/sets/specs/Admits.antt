@@ -14,7 +14,7 @@ use Rattle.laws.specs.Run.{run, run-mem}
 use Rattle.laws.specs.Members.{both, every, at-each, by-member, oneOf, one-of}
 use Rattle.sets.specs.declared.Set.{Set}
 use Rattle.sizes.specs.declared.Size.{Size}
-use Rattle.sizes.specs.Size.{size, some, some-of, Row, Profile, sizesOf, in-rows, in-all, of-all}
+use Rattle.sizes.specs.Size.{size, some, some-of, Profile, sizesOf, in-rows, in-all, of-all}
 use Rattle.sets.specs.Set.{sizeOf}
 use Rattle.sizes.specs.Profiles.{profiles, carriers, turbos, listedSizes, lastProfile, profileListed, bitsListed, sizeListed}
 use Rattle.sizes.specs.Listed.{HasEach, Agrees, all-listed}

@@ -17,9 +17,8 @@ use Rattle.sizes.specs.declared.Family.{Family}
 use Rattle.sizes.specs.declared.Family.the-variants.{Carrier, Turbo}
 use Rattle.sizes.specs.declared.Size.{Size}
 use Rattle.sizes.specs.Size.{size, allSizes, either-all}
-use Rattle.sets.specs.Set.{sizeOf}
+use Rattle.sets.specs.Set.{sizeOf, familyOf, rowsOf, groupOf}
 use Rattle.sizes.specs.Profiles.{familyBy, rowsBy, groupBy}
-use Rattle.sets.specs.Set.{familyOf, rowsOf, groupOf}
 use Rattle.sizes.specs.Profiles.{turboSizes, carriers, turbos, profiles, listedSizes}
 use Rattle.sizes.specs.Listed.{turbo-range}
 use Rattle.sets.specs.Verdict.{verdictOf}

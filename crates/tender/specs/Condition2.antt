@@ -4,7 +4,7 @@
 use Prim.Native.Nat.{ℕ, _*_, _≤_, _<_}
 use mathlib.Core.List.{List, List·Memᴰ, map}
 use mathlib.Core.Logic.{_↔_, _≢_}
-use mathlib.Core.Path.{_≡_, refl, ap, _∙_}
+use mathlib.Core.Path.{_≡_, refl, ap}
 use native.Mathlib.Omega.{arith}
 use lib.ListN.{length, getD}
 use Rattle.laws.specs.declared.Way.{Way}
@@ -15,9 +15,8 @@ use Rattle.laws.specs.Told.{NoneTrue}
 use Rattle.laws.specs.Walk.{Rule}
 use Rattle.sets.specs.declared.Set.{Set}
 use Rattle.sizes.specs.Size.{sizesOf}
-use Rattle.sets.specs.Set.{sizeOf}
+use Rattle.sets.specs.Set.{sizeOf, rowsOf, groupOf}
 use Rattle.sizes.specs.Profiles.{ofdm, ofdma, wlan, bench, turbo, listedSizes}
-use Rattle.sets.specs.Set.{rowsOf, groupOf}
 use Rattle.sizes.specs.Listed.{counts}
 use Rattle.sets.specs.Beside.{besideSentences}
 use Rattle.sets.specs.Verdict.{verdictOf}

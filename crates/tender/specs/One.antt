@@ -7,7 +7,7 @@ use native.Mathlib.Omega.{arith}
 use lib.ListN.{length, getD, take, drop}
 use lib.Seq.{drop-cons}
 use Rattle.laws.specs.declared.Way.{Way}
-use Rattle.laws.specs.Outcome.{done, after, after-same}
+use Rattle.laws.specs.Outcome.{done, after-same}
 use Rattle.laws.specs.Run.{run, run-same}
 use Rattle.laws.specs.Move.{gather}
 use Rattle.sets.specs.declared.Set.{Set}

@@ -1,12 +1,12 @@
 -- What a walk of an accepted set writes, from any cell and with any room: L, or M, on from there. And a table that a walk for L from cell 0 filled.
 use Prim.Native.Nat.{ℕ, min, _-_, _≤_, _<_}
-use mathlib.Core.List.{List, []}
-use mathlib.Core.Path.{_≡_, refl, sym, ap, _∙_}
+use mathlib.Core.List.{List}
+use mathlib.Core.Path.{_≡_, sym, ap, _∙_}
 use native.Mathlib.Omega.{arith}
 use lib.ListN.{length}
 use borrow.Author.Tests.{le-ltb, lt-ltb}
 use Rattle.laws.specs.declared.Way.the-variants.{Interleaver, Deinterleaver}
-use Rattle.laws.specs.Outcome.{Line, line, clear, first, first-join, clear-front, first-clear, clear-done}
+use Rattle.laws.specs.Outcome.{clear, first, first-join, clear-front, first-clear, clear-done}
 use Rattle.laws.specs.Run.{run, length-run}
 use Rattle.laws.specs.Loop.{by}
 use Rattle.laws.specs.Once.{inside}

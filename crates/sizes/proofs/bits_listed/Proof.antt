@@ -2,7 +2,7 @@
 use mathlib.Core.Bool.{or-false}
 use mathlib.Core.Path.{sym, _∙_}
 use borrow.Author.Needs.{needs}
-use borrow.Author.Tests.{eq-eqb, ne-eqb}
+use borrow.Author.Tests.{eq-eqb}
 use Rattle.sizes.specs.Profiles.{bitsListed}
 use Rattle.sizes.specs.Listed.{bits-by}
 use Rattle.sizes.proofs.bits_listed.Statement.{statement}
