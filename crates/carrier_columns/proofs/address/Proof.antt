@@ -5,15 +5,6 @@ use Rattle.carrier_columns.specs.Down.{set-up, spot-address, spot-small}
 use Rattle.carrier_columns.proofs.address.Statement.{statement}
 use Rattle.carrier_columns.proofs.address.Tie as tie
 
-div-c : tie.Need-div-c
-div-c c = search needs
-
-div-col : tie.Need-div-col
-div-col c = search needs
-
-rem-row : tie.Need-rem-row
-rem-row c = search needs
-
 new-requires : tie.Need-new-requires
 new-requires c κs = set-up (c .pre .0)
 
@@ -24,4 +15,4 @@ returns : tie.Need-returns
 returns c = c .address .ensures ∙ spot-address (c .before .before .pre .0) (c .before .before .pre .1) (c .before .new .ensures)
 
 pub address-spec : {M : Type 1} → statement M
-address-spec = tie.close (tie.spec div-c div-col rem-row new-requires address-requires returns)
+address-spec = tie.close (tie.spec (λ c. search needs) (λ c. search needs) (λ c. search needs) new-requires address-requires returns)

@@ -53,17 +53,5 @@ returns c = going-all _ _ _ (c .before .loop .inv) (c .loop-test .left)
 pub down-spec : {M : Type 1} → statement M
 down-spec =
     tie.close
-    (tie.spec
-    Inv-loop
-    μ-loop
-    loop-holds
-    address-requires
-    cast-out
-    mul-out
-    slice-write-out
-    next-requires
-    add-i
-    loop-less
-    loop-again
-    same-length
+    (tie.spec Inv-loop μ-loop loop-holds address-requires cast-out mul-out slice-write-out next-requires add-i loop-less loop-again same-length
     returns)

@@ -6,17 +6,11 @@ use Rattle.laws.specs.Digits.{mod-back-over, mod-back-less}
 use Rattle.carrier_columns.proofs.down_by_one.Statement.{statement}
 use Rattle.carrier_columns.proofs.down_by_one.Tie as tie
 
-sub-result : tie.Need-sub-result
-sub-result c = search needs
-
 returns : tie.Need-returns
 returns c = λ x e. mod-back-over (c .before .args .s) x (c .before .pre) (sym e ∙ c .if1 .taken)
-
-sub-result-2 : tie.Need-sub-result-2
-sub-result-2 c = search needs
 
 returns-2 : tie.Need-returns-2
 returns-2 c = λ x e. ap (λ (t : ℕ). t - 1) e ∙ mod-back-less (c .before .args .s) x (c .before .pre) (λ q. c .if1 .left (e ∙ q))
 
 pub down-by-one-spec : {M : Type 1} → statement M
-down-by-one-spec = tie.close (tie.spec sub-result sub-result-2 returns returns-2)
+down-by-one-spec = tie.close (tie.spec (λ c. search needs) (λ c. search needs) returns returns-2)

@@ -95,23 +95,5 @@ returns c = lanes-all (c .before .loop .inv) (c .loop-test .left) (c .before .be
 pub write-spec : {M : Type 1} → statement M
 write-spec =
     tie.close
-    (tie.spec
-    Inv-loop
-    μ-loop
-    div-c
-    sub-least
-    least-requires
-    div-col
-    rem-row
-    new-requires
-    loop-holds
-    sub-least-2
-    add-least
-    least-requires-2
-    down-requires
-    next-column-requires
-    add-col
-    loop-less
-    loop-again
-    same-length
-    returns)
+    (tie.spec Inv-loop μ-loop div-c sub-least least-requires div-col rem-row new-requires loop-holds sub-least-2 add-least least-requires-2
+    down-requires next-column-requires add-col loop-less loop-again same-length returns)

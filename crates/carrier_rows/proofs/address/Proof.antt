@@ -6,9 +6,6 @@ use Rattle.carrier_rows.specs.Along.{set-up, spot-address, spot-small}
 use Rattle.carrier_rows.proofs.address.Statement.{statement}
 use Rattle.carrier_rows.proofs.address.Tie as tie
 
-div-c : tie.Need-div-c
-div-c c = search needs
-
 div-row : tie.Need-div-row
 div-row c = row-pos (c .pre .0 .size)
 
@@ -25,4 +22,4 @@ returns : tie.Need-returns
 returns c = c .address .ensures ∙ spot-address (c .before .before .pre .0) (c .before .before .pre .1) (c .before .new .ensures)
 
 pub address-spec : {M : Type 1} → statement M
-address-spec = tie.close (tie.spec div-c div-row rem-col new-requires address-requires returns)
+address-spec = tie.close (tie.spec (λ c. search needs) div-row rem-col new-requires address-requires returns)

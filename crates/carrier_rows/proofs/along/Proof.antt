@@ -60,20 +60,5 @@ returns-2 c = going-all _ _ _ (c .before .loop .inv) (c .loop-test .left)
 pub along-spec : {M : Type 1} → statement M
 along-spec =
     tie.close
-    (tie.spec
-    Inv-loop
-    μ-loop
-    straight-requires
-    same-length
-    returns
-    loop-holds
-    address-requires
-    cast-out
-    mul-out
-    slice-write-out
-    next-requires
-    add-i
-    loop-less
-    loop-again
-    same-length-2
-    returns-2)
+    (tie.spec Inv-loop μ-loop straight-requires same-length returns loop-holds address-requires cast-out mul-out slice-write-out next-requires
+    add-i loop-less loop-again same-length-2 returns-2)

@@ -5,9 +5,6 @@ use Rattle.carrier_rows.specs.Row.{lift-over, lift-more}
 use Rattle.carrier_rows.proofs.lift_up.Statement.{statement}
 use Rattle.carrier_rows.proofs.lift_up.Tie as tie
 
-add-result : tie.Need-add-result
-add-result c = search needs
-
 returns : tie.Need-returns
 returns c = λ s turn hd inside e top. lift-over hd inside e (c .if1 .taken ∙ top)
 
@@ -15,4 +12,4 @@ returns-2 : tie.Need-returns-2
 returns-2 c = λ s turn hd inside e top. lift-more hd inside e (λ q. c .if1 .left (q ∙ sym top))
 
 pub lift-up-spec : {M : Type 1} → statement M
-lift-up-spec = tie.close (tie.spec add-result returns returns-2)
+lift-up-spec = tie.close (tie.spec (λ c. search needs) returns returns-2)

@@ -45,18 +45,4 @@ returns : tie.Need-returns Inv-loop μ-loop
 returns c = going-all _ _ _ (c .before .loop .inv) (c .loop-test .left)
 
 pub straight-spec : {M : Type 1} → statement M
-straight-spec =
-    tie.close
-    (tie.spec
-    Inv-loop
-    μ-loop
-    loop-holds
-    cast-out
-    mul-out
-    slice-write-out
-    add-a
-    add-i
-    loop-less
-    loop-again
-    same-length
-    returns)
+straight-spec = tie.close (tie.spec Inv-loop μ-loop loop-holds cast-out mul-out slice-write-out add-a add-i loop-less loop-again same-length returns)

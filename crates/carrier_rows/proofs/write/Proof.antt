@@ -105,26 +105,5 @@ returns c = lanes-all (c .before .loop .inv) (c .loop-test .left) (c .before .be
 pub write-spec : {M : Type 1} → statement M
 write-spec =
     tie.close
-    (tie.spec
-    Inv-loop
-    μ-loop
-    div-c
-    sub-top
-    mul-top
-    mul-group
-    sub-least
-    least-requires
-    div-row
-    rem-col
-    new-requires
-    loop-holds
-    sub-least-2
-    add-least
-    least-requires-2
-    along-requires
-    next-row-requires
-    add-row
-    loop-less
-    loop-again
-    same-length
-    returns)
+    (tie.spec Inv-loop μ-loop div-c sub-top mul-top mul-group sub-least least-requires div-row rem-col new-requires loop-holds sub-least-2
+    add-least least-requires-2 along-requires next-row-requires add-row loop-less loop-again same-length returns)

@@ -5,24 +5,6 @@ use borrow.Author.Needs.{needs}
 use Rattle.families.proofs.is_barred.Statement.{statement}
 use Rattle.families.proofs.is_barred.Tie as tie
 
-family-of-requires : tie.Need-family-of-requires
-family-of-requires c κs = search needs
-
-enum-told : tie.Need-enum-told
-enum-told c = search needs
-
-enum-told-2 : tie.Need-enum-told-2
-enum-told-2 c = search needs
-
-enum-told-3 : tie.Need-enum-told-3
-enum-told-3 c = search needs
-
-enum-told-4 : tie.Need-enum-told-4
-enum-told-4 c = search needs
-
-returns : tie.Need-returns
-returns c = search needs
-
 returns-2 : tie.Need-returns-2
 returns-2 c =
     sym (ap₂ barred (c .before .before .enum-told2 .given .1) (sym (c .before .before .before .before .family-of .ensures) ∙ c .enum-told3 .given .1))
@@ -34,12 +16,5 @@ returns-3 c =
 pub is-barred-spec : {M : Type 1} → statement M
 is-barred-spec =
     tie.close
-    (tie.spec
-    family-of-requires
-    enum-told
-    enum-told-2
-    enum-told-3
-    enum-told-4
-    returns
-    returns-2
+    (tie.spec (λ c κs. search needs) (λ c. search needs) (λ c. search needs) (λ c. search needs) (λ c. search needs) (λ c. search needs) returns-2
     returns-3)

@@ -7,12 +7,6 @@ use Rattle.carrier_columns.specs.Column.{column-on}
 use Rattle.carrier_columns.proofs.ColumnSpot.next.Statement.{statement}
 use Rattle.carrier_columns.proofs.ColumnSpot.next.Tie as tie
 
-add-base : tie.Need-add-base
-add-base c = search needs
-
-down-by-one-requires : tie.Need-down-by-one-requires
-down-by-one-requires c κs = search needs
-
 returns : tie.Need-returns
 returns c = λ n col row h p.
     column-on p (c .down-by-one .result)
@@ -20,4 +14,4 @@ returns c = λ n col row h p.
     (p .turn-is ∙ ap (λ (x : ℕ). x % (c .before .before .args .s)) (let e : col + n - row ≡ col + n - (row + 1) + 1 = omega arith in e)))
 
 pub next-spec : {M : Type 1} → statement M
-next-spec = tie.close (tie.spec add-base down-by-one-requires returns)
+next-spec = tie.close (tie.spec (λ c. search needs) (λ c κs. search needs) returns)

@@ -6,14 +6,8 @@ use Rattle.carrier_rows.specs.Row.{row-new, base-fits, lift-fits}
 use Rattle.carrier_rows.proofs.RowSpot.new.Statement.{statement}
 use Rattle.carrier_rows.proofs.RowSpot.new.Tie as tie
 
-rem-low : tie.Need-rem-low
-rem-low c = search needs
-
 add-turn : tie.Need-add-turn
 add-turn c = omega (arith, c .pre .col-small, c .pre .place-small)
-
-rem-turn : tie.Need-rem-turn
-rem-turn c = search needs
 
 sub-t7 : tie.Need-sub-t7
 sub-t7 c = mod-le (c .args .col) (c .args .s)
@@ -31,4 +25,4 @@ returns : tie.Need-returns
 returns c = row-new (c .args .d) (c .args .s) (c .args .row) (c .args .col)
 
 pub new-spec : {M : Type 1} → statement M
-new-spec = tie.close (tie.spec rem-low add-turn rem-turn sub-t7 mul-t8 add-t9 mul-t10 returns)
+new-spec = tie.close (tie.spec (λ c. search needs) add-turn (λ c. search needs) sub-t7 mul-t8 add-t9 mul-t10 returns)

@@ -6,9 +6,6 @@ use Rattle.carrier_rows.specs.Row.{row-over, row-on, d-small}
 use Rattle.carrier_rows.proofs.RowSpot.next.Statement.{statement}
 use Rattle.carrier_rows.proofs.RowSpot.next.Tie as tie
 
-add-low : tie.Need-add-low
-add-low c = search needs
-
 lift-up-requires : tie.Need-lift-up-requires
 lift-up-requires c κs = (c .before .pre .lift-small, d-small (c .before .pre))
 
@@ -26,4 +23,4 @@ returns-2 c = λ row col p.
     row-on p (c .before .lift-up .result) (c .before .lift-up .ensures _ _ (z .d-pos) (mod-lt _ (z .s-pos)) (p .lift-is) (z .top-is)) (z .s-pos) (c .if1 .left)
 
 pub next-spec : {M : Type 1} → statement M
-next-spec = tie.close (tie.spec add-low lift-up-requires add-t10 returns returns-2)
+next-spec = tie.close (tie.spec (λ c. search needs) lift-up-requires add-t10 returns returns-2)

@@ -5,14 +5,8 @@ use Rattle.carrier_rows.specs.Row.{row-turned}
 use Rattle.carrier_rows.proofs.RowSpot.next_row.Statement.{statement}
 use Rattle.carrier_rows.proofs.RowSpot.next_row.Tie as tie
 
-lift-up-requires : tie.Need-lift-up-requires
-lift-up-requires c κs = search needs
-
-add-t6 : tie.Need-add-t6
-add-t6 c = search needs
-
 returns : tie.Need-returns
 returns c = λ n s z top p. row-turned z p (c .lift-up .result) (c .lift-up .ensures _ _ (z .d-pos) (mod-lt _ (z .s-pos)) (p .lift-is) top)
 
 pub next-row-spec : {M : Type 1} → statement M
-next-row-spec = tie.close (tie.spec lift-up-requires add-t6 returns)
+next-row-spec = tie.close (tie.spec (λ c κs. search needs) (λ c. search needs) returns)

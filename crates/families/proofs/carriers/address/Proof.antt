@@ -5,33 +5,9 @@ use borrow.Author.Needs.{needs}
 use Rattle.families.proofs.carriers.address.Statement.{statement}
 use Rattle.families.proofs.carriers.address.Tie as tie
 
-rows-of-requires : tie.Need-rows-of-requires
-rows-of-requires c κs = search needs
-
-cast-d : tie.Need-cast-d
-cast-d c = search needs
-
-group-of-requires : tie.Need-group-of-requires
-group-of-requires c κs = search needs
-
-cast-s : tie.Need-cast-s
-cast-s c = search needs
-
-enum-told : tie.Need-enum-told
-enum-told c = search needs
-
-cast-one : tie.Need-cast-one
-cast-one c = search needs
-
 one-requires : tie.Need-one-requires
 one-requires c κs =
     carrier-whole (c .before .before .before .before .before .pre) (c .before .before .before .before .rows-of .ensures) (c .before .before .before .group-of .ensures .0)
-
-enum-told-2 : tie.Need-enum-told-2
-enum-told-2 c = search needs
-
-cast-one-2 : tie.Need-cast-one-2
-cast-one-2 c = search needs
 
 one-requires-2 : tie.Need-one-requires-2
 one-requires-2 c κs =
@@ -48,16 +24,5 @@ returns-2 c =
 pub address-spec : {M : Type 1} → statement M
 address-spec =
     tie.close
-    (tie.spec
-    rows-of-requires
-    cast-d
-    group-of-requires
-    cast-s
-    enum-told
-    cast-one
-    one-requires
-    enum-told-2
-    cast-one-2
-    one-requires-2
-    returns
-    returns-2)
+    (tie.spec (λ c κs. search needs) (λ c. search needs) (λ c κs. search needs) (λ c. search needs) (λ c. search needs) (λ c. search needs)
+    one-requires (λ c. search needs) (λ c. search needs) one-requires-2 returns returns-2)

@@ -5,20 +5,8 @@ use borrow.Author.Needs.{needs}
 use Rattle.families.proofs.turbo.address.Statement.{statement}
 use Rattle.families.proofs.turbo.address.Tie as tie
 
-enum-told : tie.Need-enum-told
-enum-told c = search needs
-
-cast-address-of : tie.Need-cast-address-of
-cast-address-of c = search needs
-
 address-of-requires : tie.Need-address-of-requires
 address-of-requires c κs = turbo-sized (c .before .before .before .pre)
-
-enum-told-2 : tie.Need-enum-told-2
-enum-told-2 c = search needs
-
-cast-place-of : tie.Need-cast-place-of
-cast-place-of c = search needs
 
 place-of-requires : tie.Need-place-of-requires
 place-of-requires c κs = turbo-sized (c .before .before .before .pre)
@@ -34,12 +22,5 @@ returns-2 c =
 pub address-spec : {M : Type 1} → statement M
 address-spec =
     tie.close
-    (tie.spec
-    enum-told
-    cast-address-of
-    address-of-requires
-    enum-told-2
-    cast-place-of
-    place-of-requires
-    returns
+    (tie.spec (λ c. search needs) (λ c. search needs) address-of-requires (λ c. search needs) (λ c. search needs) place-of-requires returns
     returns-2)

@@ -6,20 +6,8 @@ use borrow.Author.Needs.{needs}
 use Rattle.families.proofs.turbo.walk.Statement.{statement}
 use Rattle.families.proofs.turbo.walk.Tie as tie
 
-enum-told : tie.Need-enum-told
-enum-told c = search needs
-
-cast-walk : tie.Need-cast-walk
-cast-walk c = search needs
-
 walk-requires : tie.Need-walk-requires
 walk-requires c κs = turbo-sized (c .before .before .before .before .before .pre)
-
-enum-told-2 : tie.Need-enum-told-2
-enum-told-2 c = search needs
-
-same-length : tie.Need-same-length
-same-length c = search needs
 
 returns : tie.Need-returns
 returns c =
@@ -30,6 +18,4 @@ returns-2 : tie.Need-returns-2
 returns-2 c = barred-leaf _ _ (barred-is (c .enum-told2 .given .1) (c .before .before .before .pre .which))
 
 pub walk-spec : {M : Type 1} → statement M
-walk-spec =
-    tie.close
-    (tie.spec enum-told cast-walk walk-requires enum-told-2 same-length returns returns-2)
+walk-spec = tie.close (tie.spec (λ c. search needs) (λ c. search needs) walk-requires (λ c. search needs) (λ c. search needs) returns returns-2)

@@ -11,8 +11,5 @@ mul-result c =
     let h : (c .args .a % 65536) * (c .args .b % 65536) ≤ 65535 * 65535 = mul-le-mul {n₂ = 65535} {m₂ = 65535} (omega arith) (omega arith)
     in omega arith
 
-returns : tie.Need-returns
-returns c = search needs
-
 pub times-spec : {M : Type 1} → statement M
-times-spec = tie.close (tie.spec mul-result returns)
+times-spec = tie.close (tie.spec mul-result (λ c. search needs))
