@@ -5,7 +5,7 @@ use mathlib.Core.List.{List, map}
 use mathlib.Core.Path.{_≡_, sym, ap, ap₂, _∙_}
 use lib.ListN.{length, getD, length-map}
 use Rattle.laws.specs.declared.Way.{Way}
-use Rattle.laws.specs.Outcome.{done, clear, first, after, after-map, after-same}
+use Rattle.laws.specs.Outcome.{done, after, after-map, after-same}
 use Rattle.laws.specs.Perm.{Perm}
 use Rattle.laws.specs.Move.{gather, getD-gather, length-gather, back}
 use Rattle.sets.specs.declared.Set.{Set}
@@ -59,9 +59,6 @@ stand-in way s y z src dst =
 -- every symbol changed by any function from any type to any other, the call answers the same and moves the changed symbols the same way,
 -- whatever stands in for a symbol that is not there, on either side
 module _ {A B : Type 0} (h : A → B) (s : Set) (src dst : List A) where
-  pub blind-answer : (total : ℕ) → movedOf s total (length (map h src)) (length (map h dst)) ≡ movedOf s total (length src) (length dst)
-  blind-answer total = ap₂ (movedOf s total) (length-map src h) (length-map dst h)
-
   pub blind : (way : Way) (y : B) (z : A) → moved way s y (map h src) (map h dst) ≡ map h (moved way s z src dst)
   unfolding moved
   blind way y z =

@@ -1,5 +1,5 @@
 -- Behind a table that is filled: the loops that move a block by it may run, and what they leave is the output of the call. Over any element.
-use Prim.Native.Nat.{ℕ, _<_}
+use Prim.Native.Nat.{ℕ}
 use mathlib.Core.List.{List}
 use mathlib.Core.Path.{_≡_, sym, ap, _∙_}
 use native.Mathlib.Omega.{arith}

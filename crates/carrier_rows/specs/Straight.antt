@@ -1,7 +1,7 @@
 -- The walk for L along a row where s is 1: nothing is turned, and each address is d more than the one before. Rests on Along.
 use mathlib.Core.Path.{_≡_, sym, ap, _∙_, subst}
 use mathlib.Core.List.{List}
-use Prim.Native.Nat.{ℕ, _+_, _-_, _*_, _%_, _≤_, _<_}
+use Prim.Native.Nat.{ℕ, _+_, _*_, _%_, _<_}
 use native.Mathlib.Nat.{mod-lt, mul-zero, mul-one}
 use native.Mathlib.Omega.{arith}
 use lib.ListN.{set}

@@ -1,7 +1,7 @@
 // What was compared, and what differed. `weight` is of what the library itself gave: each address, or byte, times its place, from 1. It tells a
 // comparison that looked at nothing, or at something else, whatever the differences are.
+use crate::num::sum;
 use libc::STDOUT_FILENO;
-use second::num::sum;
 
 pub struct Count {
     pub sets: u64,

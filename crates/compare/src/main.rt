@@ -4,6 +4,7 @@
 mod chosen;
 mod count;
 mod moves;
+mod num;
 mod slices;
 
 use chosen::accepted;
@@ -13,9 +14,9 @@ use chosen::sets_in;
 use chosen::turbo_set;
 use count::Count;
 use laws::Way;
+use num::sum;
 use second::Whole;
 use second::num::move_on;
-use second::num::sum;
 use sets::Set;
 
 // The whole list of a set by the second computation; one place off for a list that is wrong on purpose.

@@ -1,13 +1,13 @@
 // Whole blocks of bytes, and single addresses, held against a list of the second computation.
 use crate::count::Count;
+use crate::num::differ;
+use crate::num::least;
+use crate::num::short;
+use crate::num::sum;
+use crate::num::weigh;
 use second::num::at;
-use second::num::differ;
-use second::num::least;
 use second::num::over;
-use second::num::short;
-use second::num::sum;
 use second::num::times;
-use second::num::weigh;
 use sets::Set;
 use tables::Moved;
 use walks::Found;

@@ -1,15 +1,15 @@
 // A walk in slices, held against a whole list of the second computation.
 use crate::count::Count;
+use crate::num::differ;
+use crate::num::least;
+use crate::num::sum;
+use crate::num::weigh;
 use laws::Way;
 use second::ENDS;
 use second::Whole;
 use second::num::at;
-use second::num::differ;
-use second::num::least;
 use second::num::minus;
 use second::num::plus;
-use second::num::sum;
-use second::num::weigh;
 use walks::Walk;
 use walks::Walked;
 

@@ -1,4 +1,5 @@
 -- An accepted set of a family, and what the leaf of its walk promises: 1 where the walk is not had, else what the leaf of its rule does.
+-- Rests on Rules.
 use Prim.Native.Nat.{ℕ}
 use mathlib.Core.Bool.{Bool, true, false}
 use mathlib.Core.List.{List, _∷_}
@@ -6,7 +7,7 @@ use mathlib.Core.Path.{_≡_, refl}
 use native.Mathlib.Omega.{arith}
 use lib.ListN.{length}
 use Rattle.laws.specs.declared.Way.{Way}
-use Rattle.laws.specs.Outcome.{done, Line, line, judged, after}
+use Rattle.laws.specs.Outcome.{Line, line, judged, after}
 use Rattle.laws.specs.declared.Leaf.{Leaf}
 use Rattle.laws.specs.declared.Leaf.the-variants.{Went, Stopped}
 use Rattle.laws.specs.Walk.{walkCounts, leafLines, sayLeaf, LeafOf}
@@ -15,14 +16,10 @@ use Rattle.laws.specs.Leaves.{Fits, leaf-fits}
 use Rattle.sets.specs.declared.Set.{Set}
 use Rattle.sizes.specs.declared.Family.{Family}
 use Rattle.sets.specs.Set.{familyOf}
-use Rattle.sets.specs.Verdict.{verdictOf}
+use Rattle.sets.specs.Admits.{Accepted}
 use Rattle.families.specs.Rules.{ruleIn, barred, lawful-way}
 
--- the test of a set accepts it
-abbrev pub Accepted : Set → Type 0
-Accepted s = verdictOf s ≡ done tt
-
--- and it is of a family
+-- a set that the test accepts, and its family
 pub record Taken (s : Set) (family : Family) : Type 0 where
   pub accepted : Accepted s
   pub which : familyOf s ≡ family
@@ -44,7 +41,7 @@ module _ (way : Way) (s : Set) {cell : ℕ} {old new : List ℕ} {leaf : Leaf} (
   pub had-leaf : LeafOf (s .n) (ruleIn way s) cell old new leaf → WalkLeaf way s cell old new leaf
   had-leaf l = record { answer = rw o (l .answer); slice = rw o (l .slice) }
 
-  pub leaf-had : WalkLeaf way s cell old new leaf → LeafOf (s .n) (ruleIn way s) cell old new leaf
+  leaf-had : WalkLeaf way s cell old new leaf → LeafOf (s .n) (ruleIn way s) cell old new leaf
   leaf-had l = record { answer = rw o at (l .answer); slice = rw o at (l .slice) }
 
 pub barred-leaf : (way : Way) (s : Set) {cell : ℕ} {old : List ℕ} → barred way (familyOf s) ≡ true → WalkLeaf way s cell old old (Stopped 1)

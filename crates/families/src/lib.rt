@@ -4,7 +4,8 @@ ghost use mathlib.Core.Path.{_≡_};
 ghost use Rattle.laws.specs.Walk.{SingleOf};
 ghost use Rattle.sets.specs.Set.{familyOf};
 ghost use Rattle.families.specs.Rules.{ruleOf, ruleIn, barred};
-ghost use Rattle.families.specs.Taken.{Accepted, WalkLeaf};
+ghost use Rattle.sets.specs.Admits.{Accepted};
+ghost use Rattle.families.specs.Taken.{WalkLeaf};
 
 mod carriers; // carriers.rt: the carrier family
 mod turbo; // turbo.rt: the turbo family

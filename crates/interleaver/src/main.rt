@@ -1,5 +1,5 @@
 // The command line: words and numbers in, the answers of the proved libraries out. The one loop here is over the
-// questions of `lines`; the others are in the crates below.
+// questions of the command `lines`; the others are in the crates below.
 mod asked; // asked.rt: the numbers of a command
 mod told; // told.rt: help, and what was expected
 

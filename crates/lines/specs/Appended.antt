@@ -1,7 +1,7 @@
 -- A line's room of 512 bytes with s after its first bytes: s is stored there byte by byte as far as there is room, and nothing else changes.
 -- `in-full`: where all of s has room, that is the first bytes, then s, then what stood behind it.
 use Prim.Native.Nat.{ℕ, suc, _+_, _-_, _≤_, _<_, min}
-use mathlib.Core.Path.{_≡_, _∙_, ap, sym, refl}
+use mathlib.Core.Path.{_≡_, _∙_, sym, refl}
 use mathlib.Core.List.{List, _++_}
 use native.Mathlib.Numerals.{add-one}
 use native.Mathlib.Omega.{arith}

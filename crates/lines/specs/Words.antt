@@ -7,7 +7,7 @@ use native.Mathlib.Numerals.{add-one}
 use native.Mathlib.Omega.{arith}
 use lib.Dec.{ltb}
 use lib.ListN.{length, take, drop, getD, drop-of-length-le}
-use lib.Seq.{drop-cons, drop-drop, length-take-le}
+use lib.Seq.{drop-cons, drop-drop}
 
 -- a byte of a word
 abbrev pub ofWord : ℕ → Bool
@@ -95,7 +95,3 @@ module _ {s : List ℕ} {i at k : ℕ} (w : Wording s i at k) {a e : ℕ} (p : a
       ∙ ap (λ (l : List ℕ). take (ends true l) l) (sym starts)
       ∙ ap (λ (n : ℕ). wordOf n (drop at s)) (sym f)
       ∙ w .same
-
--- as many as are taken: the kit's law turned round, as a part of a slice asks it
-pub counted : (n : ℕ) (l : List ℕ) → n ≤ length l → n ≡ length (take n l)
-counted n l h = sym (length-take-le n l h)

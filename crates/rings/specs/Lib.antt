@@ -1,2 +1,2 @@
-pub mod Ran
-pub mod Feeding
+pub mod Gives
+pub mod Serving

@@ -1,5 +1,5 @@
-// The rings of the DVB byte machine: twelve branches, queues in steps of 17 bytes. Nothing is tested here: whoever calls has judged store, phase
-// and lengths.
+// The rings of the DVB byte machine: twelve branches, queues in steps of 17 bytes. Nothing is tested here: whoever calls has judged store and
+// lengths.
 mod turns; // turns.rt: the loops over one ring
 
 use laws::Way;
@@ -8,17 +8,17 @@ ghost use Prim.Native.Nat.{_+_, _*_, _/_, _%_, _<_};
 ghost use lib.ListN.{length};
 ghost use Rattle.delay.specs.Machine.{ringOf};
 ghost use Rattle.delay.specs.Lane.{Leads};
-ghost use Rattle.rings.specs.Ran.{Ran};
+ghost use Rattle.rings.specs.Gives.{RingsRan};
 
-// The rings before the byte that a phase names.
+// The rings as they stand before a byte: its number, or that number modulo 5,654,880.
 pub struct Rings {
     pub phase: u32,
 }
 
 impl Rings {
-    pub const BRANCHES: usize = 12;
+    const BRANCHES: usize = 12;
 
-    pub const STEP: usize = 17;
+    const STEP: usize = 17;
 
     // The ring of branch j, and the branch of ring j: the queue of STEP * j bytes, or counted from the other end.
     fn ring(way: Way, j: usize) -> usize
@@ -59,7 +59,7 @@ impl Rings {
     // The bytes of a slice, ring by ring: bytes of different rings never meet, so the order of the rings does not matter.
     pub fn run(self, way: Way, store: &mut [u8], input: &[u8], out: &mut [u8])
         requires { ⌜ (length (now store) ≡ 1122) × (length (now out) ≡ length (now input)) ⌝ }
-        ensures { λ _. ⌜ Ran way (self .phase) (now (store .entry)) (now (input .entry)) (now (store .exit)) (now (out .exit)) ⌝ }
+        ensures { λ _. ⌜ RingsRan way (self .phase) (now (store .entry)) (now (input .entry)) (now (store .exit)) (now (out .exit)) ⌝ }
     {
         let none = self.lead(way, 0);
         turns::pass(Self::BRANCHES, none, input, out);

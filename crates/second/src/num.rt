@@ -1,6 +1,4 @@
 // Arithmetic that never fails, so that a formula is written down with no bound for each step. A number out of range shows as a difference.
-ghost use Prim.Native.Nat.{_≤_};
-
 pub fn plus(a: usize, b: usize) -> usize {
     std::num::wrapping_add_usize(a, b)
 }
@@ -28,18 +26,8 @@ pub(super) fn rest(a: usize, b: usize) -> usize {
     a % b
 }
 
-pub fn least(a: usize, b: usize) -> usize
-    ensures { λ r. ⌜ (r ≤ a) × (r ≤ b) ⌝ }
-{
-    if a < b { a } else { b }
-}
-
 pub(super) fn wide(x: u16) -> usize {
     x as usize
-}
-
-pub fn short(x: usize) -> u32 {
-    (x % 65536) as u32
 }
 
 // A table's number at i; 0 past its end.
@@ -64,18 +52,4 @@ pub fn move_on(table: &mut [u16]) {
         put(table, i, x);
         i += 1;
     }
-}
-
-// What a number weighs at a place, counted from 0.
-pub fn weigh(i: usize, x: usize) -> u64 {
-    times(plus(i, 1), x) as u64
-}
-
-// 1 where two numbers differ.
-pub fn differ(a: usize, b: usize) -> u64 {
-    if a == b { 0 } else { 1 }
-}
-
-pub fn sum(a: u64, b: u64) -> u64 {
-    std::num::wrapping_add_u64(a, b)
 }

@@ -21,6 +21,10 @@ use Rattle.sizes.specs.Listed.{HasEach, Agrees, all-listed}
 use Rattle.sets.specs.Beside.{besideLines, besideSentences, beside-told}
 use Rattle.sets.specs.Verdict.{sizeLines, setLines, refusal, verdictOf}
 
+-- the test of a set accepts it
+abbrev pub Accepted : Set → Type 0
+Accepted s = verdictOf s ≡ done tt
+
 -- the profile of a size, where it is listed
 pub record Listing (z : Size) : Type 0 where
   pub its : Profile

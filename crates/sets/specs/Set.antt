@@ -1,4 +1,4 @@
--- What a set is of: its size, and the family, d and s of its profile and bits.
+-- The size of a set, its family, d and s. Rests on Profiles of crate sizes. These are definitions.
 use Prim.Native.Nat.{ℕ}
 use Rattle.sizes.specs.declared.Size.{Size}
 use Rattle.sizes.specs.declared.Family.{Family}

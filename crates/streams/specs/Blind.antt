@@ -1,6 +1,6 @@
 -- A machine never looks at a byte: every byte changed by any function, of any type to any other, in the store, the fill and the input alike,
 -- it does the same and gives the changed bytes.
-use mathlib.Core.Path.{_≡_, refl, ap, _∙_}
+use mathlib.Core.Path.{_≡_, ap, _∙_}
 use mathlib.Core.List.{List, map}
 use lib.ListN.{length-map}
 use Rattle.laws.specs.Outcome.{Line, judged, after, after-map}

@@ -4,7 +4,7 @@ use mathlib.Core.Logic.{_≢_, _↔_}
 use mathlib.Core.Path.{_≡_}
 use mathlib.Core.List.{List, [], _∷_}
 use lib.ListN.{length}
-use Rattle.laws.specs.Outcome.{refused, judged, after}
+use Rattle.laws.specs.Outcome.{refused}
 use Rattle.laws.specs.Sentences.{Sentence, sentence, FirstTrue, Told, none, told-differ, told-reach, said-exactly, kept-alone}
 use Rattle.streams.specs.Dvb.{startRecord, startStore, fedOutput, fedStore, fedRecord}
 use Rattle.streams.specs.Answers.{startLines, startedOf, startedStore}

@@ -1,5 +1,5 @@
 -- The two loops that move symbols of w entries by a table of addresses: what holds at each turn, group by group. Over any element. Rests on
--- Groups and on the loops of `laws`.
+-- Groups, on Moves of `movers` and on the loops of `laws`.
 use Prim.Native.Nat.{ℕ, _+_, _*_, _≤_, _<_}
 use mathlib.Core.List.{List, []}
 use mathlib.Core.Path.{_≡_, sym, ap, _∙_}

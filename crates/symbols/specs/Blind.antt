@@ -1,5 +1,5 @@
 -- No value decides anything: every entry changed by any function from any type to any other, the call moves the changed symbols the same way. (That
--- it answers the same is `blind-answer` of `blocks`.)
+-- it answers the same is `blind-answer` of `tables`.)
 use Prim.Native.Nat.{ℕ, zero, suc, _*_}
 use mathlib.Core.List.{List, [], _∷_, map, map-append}
 use mathlib.Core.Path.{_≡_, refl, sym, ap, ap₂, _∙_}

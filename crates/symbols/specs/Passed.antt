@@ -12,9 +12,8 @@ use Rattle.tables.specs.declared.Moved.the-variants.{Done}
 use Rattle.movers.specs.Moves.{moved-same}
 use Rattle.tables.specs.Passed.{Filled, its-lengths, done-answer, done-output}
 use Rattle.symbol_movers.specs.Groups.{groups, joined}
-use Rattle.symbol_movers.specs.Grouped.{symbolsBy}
+use Rattle.symbol_movers.specs.Grouped.{symbolsBy, Movable}
 use Rattle.symbols.specs.Answer.{movedSymbols}
-use Rattle.symbol_movers.specs.Grouped.{Movable}
 
 module _ {A : Type 0} {s : Set} (w : ℕ) {total : ℕ} {table : List ℕ} {r : Moved} (src dst : List A) (b : total ≡ s .n * w)
     (p : Filled s total (length src) (length dst) table r) (e : r ≡ Done) where

@@ -1,5 +1,5 @@
 -- n groups that have w entries each: what a list of n · w entries is cut into, what is gathered from such groups, and what can be joined and cut
--- again. Over any element. Rests on Groups.
+-- again. Over any element. Rests on Groups of crate symbol_movers.
 use Prim.Native.Nat.{ℕ, zero, suc, _*_, _<_}
 use mathlib.Core.List.{List, [], _∷_}
 use mathlib.Core.Path.{_≡_, refl, sym, ap, ap₂, _∙_}

@@ -2,9 +2,10 @@
 -- of a block is a number of its own: N symbols, or N times a width.
 use Prim.Native.Nat.{ℕ}
 use mathlib.Core.Bool.{not}
-use mathlib.Core.List.{List, [], _∷_, _++_}
-use mathlib.Core.Path.{_≡_, refl}
+use mathlib.Core.List.{List, [], _∷_, _++_, map}
+use mathlib.Core.Path.{_≡_, refl, ap₂}
 use lib.Dec.{eqb}
+use lib.ListN.{length, length-map}
 use Rattle.laws.specs.Outcome.{Outcome, done, refused, apart, Line, line, judged}
 use Rattle.sets.specs.declared.Set.{Set}
 use Rattle.sets.specs.declared.Refusal.{Refusal}
@@ -23,6 +24,11 @@ blockLines s total i o = planLines s ++ lengthLines total i o
 -- what a call on a block of so many has to say, for an input and an output of these lengths
 abbrev pub movedOf : Set → ℕ → ℕ → ℕ → Outcome Refusal (Unit {0})
 movedOf s total i o = judged (refusal s) (blockLines s total i o) tt
+
+-- every symbol changed by any function, it says the same
+pub blind-answer : {A B : Type 0} (h : A → B) (s : Set) (src dst : List A) (total : ℕ)
+    → movedOf s total (length (map h src)) (length (map h dst)) ≡ movedOf s total (length src) (length dst)
+blind-answer h s src dst total = ap₂ (movedOf s total) (length-map src h) (length-map dst h)
 
 -- what an answer says
 abbrev pub sayMoved : Moved → Outcome Refusal (Unit {0})

@@ -1,13 +1,13 @@
 -- What stands behind each return of a call that moves a block: the walk's answer, the two lengths, the table. Over a block of any length.
 use Prim.Native.Nat.{ℕ, _≤_, _<_}
 use mathlib.Core.List.{List}
-use mathlib.Core.Path.{_≡_, refl, sym, ap, _∙_}
+use mathlib.Core.Path.{_≡_, sym, ap, _∙_}
 use native.Mathlib.Omega.{arith}
 use lib.Dec.{eqb}
 use lib.ListN.{length}
 use borrow.Author.Tests.{eq-eqb, ne-eqb, eqb-true, not-false}
 use Rattle.laws.specs.declared.Way.the-variants.{Interleaver}
-use Rattle.laws.specs.Outcome.{Outcome, done, refused, clear, first, judged, after, clear-then, clear-front, clear-back, first-clear, refused-front, done-clear, clear-first, answer-keeps, answer-clear}
+use Rattle.laws.specs.Outcome.{done, refused, clear, first, after, clear-then, clear-front, clear-back, first-clear, refused-front, answer-keeps, answer-clear}
 use Rattle.laws.specs.Loop.{by, Within}
 use Rattle.laws.specs.Perm.{Perm}
 use Rattle.sets.specs.declared.Set.{Set}
@@ -15,7 +15,7 @@ use Rattle.sets.specs.declared.Refusal.{Refusal}
 use Rattle.sets.specs.Verdict.{refusal}
 use Rattle.families.specs.Rules.{L, M}
 use Rattle.walks.specs.Answer.{planLines, walkLines, walkSlice, Values, walkValues, walkedOf, sliceOf}
-use Rattle.families.specs.Taken.{Accepted}
+use Rattle.sets.specs.Admits.{Accepted}
 use Rattle.walks.specs.Lists.{each-once}
 use Rattle.walks.specs.Whole.{begin, begin-lines, plan-accepted, table-is}
 use Rattle.walks.specs.Served as served

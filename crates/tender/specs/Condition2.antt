@@ -31,7 +31,7 @@ use Rattle.families.specs.Rules as rules
 use Rattle.walks.specs.Lists as lists
 use Rattle.walks.specs.Answer.{walkedOf, walkValues, foundOf}
 use Rattle.walks.specs.Served.{walk-served, address-served, walkable-listed}
-use Rattle.tables.specs.Answer.{movedOf}
+use Rattle.tables.specs.Answer.{movedOf, blind-answer}
 use Rattle.tables.specs.Passed.{block-served}
 use Rattle.blocks.specs.Answer.{moved}
 use Rattle.blocks.specs.Laws as moves
@@ -134,4 +134,4 @@ module _ {A B : Type 0} (h : A → B) (s : Set) (src dst : List A) where
   pub blind : (way : Way) (y : B) (z : A)
       → (movedOf s (s .n) (length (map h src)) (length (map h dst)) ≡ movedOf s (s .n) (length src) (length dst))
       × (moved way s y (map h src) (map h dst) ≡ map h (moved way s z src dst))
-  blind way y z = (moves.blind-answer h s src dst (s .n), moves.blind h s src dst way y z)
+  blind way y z = (blind-answer h s src dst (s .n), moves.blind h s src dst way y z)

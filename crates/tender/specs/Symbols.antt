@@ -10,7 +10,7 @@ use Rattle.sets.specs.declared.Set.{Set}
 use Rattle.tables.specs.Answer.{movedOf}
 use Rattle.tables.specs.Passed.{block-served}
 use Rattle.blocks.specs.Answer.{moved}
-use Rattle.blocks.specs.Laws.{blind-answer}
+use Rattle.tables.specs.Answer.{blind-answer}
 use Rattle.symbols.specs.Answer.{movedSymbols}
 use Rattle.symbols.specs.Laws as laws
 use Rattle.symbols.specs.Blind as blindness

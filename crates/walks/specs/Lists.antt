@@ -8,7 +8,7 @@ use Rattle.laws.specs.Once.{inside}
 use Rattle.laws.specs.Perm.{Perm}
 use Rattle.sets.specs.declared.Set.{Set}
 use Rattle.families.specs.Rules.{ruleOf, L, M, lawful}
-use Rattle.families.specs.Taken.{Accepted}
+use Rattle.sets.specs.Admits.{Accepted}
 
 -- the list of L: what passes the test among the cells
 unfoldable pub listL : Set → List ℕ

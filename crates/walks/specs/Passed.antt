@@ -9,7 +9,6 @@ use Rattle.laws.specs.Outcome.{Outcome, done, refused, Line, line, first, Rulin
 use Rattle.laws.specs.declared.Leaf.{Leaf}
 use Rattle.laws.specs.declared.Single.{Single}
 use Rattle.laws.specs.Walk.{Counts, walkCounts, leafLines, singleLines, sayLeaf, saySingle, SingleOf}
-use Rattle.laws.specs.Walk as along
 use Rattle.laws.specs.Leaves.{carry, carry-judged}
 use Rattle.sets.specs.declared.Set.{Set}
 use Rattle.sets.specs.declared.Refusal.{Refusal}
@@ -17,7 +16,8 @@ use Rattle.sets.specs.Set.{familyOf}
 use Rattle.sets.specs.Verdict.{setLines, refusal, verdictOf}
 use Rattle.walks.specs.declared.Walk.{Walk}
 use Rattle.families.specs.Rules.{ruleOf, ruleIn, barred}
-use Rattle.families.specs.Taken.{Accepted, wayLines, WalkLeaf}
+use Rattle.sets.specs.Admits.{Accepted}
+use Rattle.families.specs.Taken.{wayLines, WalkLeaf}
 use Rattle.walks.specs.Answer.{walkLines, oneLines, Values, values, walkNext, walkSlice, walkValues, walkedOf, sliceOf, foundOf}
 
 -- lines 1 to 3 are clear, so the lines behind them decide

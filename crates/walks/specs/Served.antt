@@ -17,7 +17,8 @@ use Rattle.wcdma_setup.specs.Found.{search-ends}
 use Rattle.walks.specs.declared.Walk.{Walk}
 use Rattle.families.specs.Rules.{familyRule, ruleOf, ruleIn, oneWay, barred}
 use Rattle.walks.specs.Answer.{planLines, walkLines, oneLines, walkValues, walkedOf, foundOf}
-use Rattle.families.specs.Taken.{Accepted, Walkable}
+use Rattle.sets.specs.Admits.{Accepted}
+use Rattle.families.specs.Taken.{Walkable}
 use Rattle.walks.specs.Passed.{accepted-front}
 
 -- no set's set-up gives up

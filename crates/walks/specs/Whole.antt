@@ -18,7 +18,7 @@ use Rattle.sets.specs.Verdict.{setLines, refusal, verdictOf}
 use Rattle.walks.specs.declared.Walk.{Walk}
 use Rattle.families.specs.Rules.{ruleOf, ruleIn, L, M, lawful, lawful-way}
 use Rattle.walks.specs.Answer.{planLines, walkLines, walkList, walkSlice}
-use Rattle.families.specs.Taken.{Accepted}
+use Rattle.sets.specs.Admits.{Accepted}
 
 -- the record at the beginning
 abbrev pub begin : Set → Walk

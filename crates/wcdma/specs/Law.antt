@@ -1,5 +1,5 @@
 -- For every K each address from 0 to K - 1 stands exactly once in L, and L and M undo each other. Different cells have different addresses,
--- since different rows have different places T(i) and one row has different entries. Rests on Row and the set-up.
+-- since different rows have different places T(i) and one row has different entries. Rests on Row, the shape and the set-up.
 use Prim.Native.Nat.{ℕ, _+_, _*_, _-_, _/_, _%_, _≤_, _<_}
 use mathlib.Core.Bool.{Bool, true, false, cond}
 use mathlib.Core.Path.{_≡_, refl, ap, ap₂, sym, _∙_}

@@ -1,4 +1,4 @@
--- One row: its columns have different entries, all below C. Rests on the roots and the numbers q of the set-up.
+-- One row: its columns have different entries, all below C. Rests on the roots of the shape and the numbers q of the set-up.
 use Prim.Native.Nat.{ℕ, _+_, _*_, _-_, _%_, _≤_, _<_}
 use mathlib.Core.Bool.{Bool, true, false, cond}
 use mathlib.Core.Path.{_≡_, refl, ap, sym, _∙_, subst}

@@ -1,5 +1,5 @@
 -- The WCDMA turbo interleaver, 3GPP TS 25.212 4.2.3.2.3.2 (intra-row and inter-row permutations) and 4.2.3.2.3.3 (padding pruned), as document 01
--- describes it (docs/DECISIONS.md, 11): the address of each cell of the rectangle, and the lists L and M of a block of K symbols. Rests on the set-up. These are definitions.
+-- describes it (docs/DECISIONS.md, 11): the address of each cell of the rectangle, and the lists L and M of a block of K symbols. Rests on the shape and the set-up. These are definitions.
 use Prim.Native.Nat.{ℕ, _+_, _*_, _-_, _/_, _%_}
 use mathlib.Core.Bool.{cond}
 use mathlib.Core.List.{List}

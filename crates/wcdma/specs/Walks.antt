@@ -1,4 +1,4 @@
--- A walk from cell 0 with room for all of it writes L. (The rest is proved once for every family, in crates laws and walks.)
+-- A walk from cell 0 with room for all of it writes L. (The rest is proved once for every family, in crates laws, families and walks.)
 use Prim.Native.Nat.{ℕ, _≤_}
 use mathlib.Core.Path.{_≡_, sym, _∙_}
 use Rattle.laws.specs.Walk.{walkList, whole-list}

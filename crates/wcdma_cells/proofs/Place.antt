@@ -3,7 +3,7 @@ use Prim.Native.Nat.{ℕ, _+_, _*_, _-_, _/_, _%_, _≤_, _<_}
 use mathlib.Core.Bool.{Bool, true, false}
 use mathlib.Core.List.{List}
 use mathlib.Core.Path.{_≡_, refl, ap, sym, _∙_, subst}
-use native.Mathlib.Nat.{le-mul-of-pos-right, add-mul, one-mul, add-mod, mod-lt, div-add-mod', sub-zero}
+use native.Mathlib.Nat.{le-mul-of-pos-right, add-mul, one-mul, add-mod, mod-lt, sub-zero}
 use native.Mathlib.Decide.{ℕ-discrete}
 use native.Mathlib.Omega.{arith}
 use lib.Arith.{digits-div, digits-mod}
@@ -27,9 +27,6 @@ module _ (k : ℕ) where
   pub record Place (n i j : ℕ) : Type 0 where
     pub at : n ≡ j * rows k + i
     pub row : i < rows k
-
-  pub place-first : (n : ℕ) → Place n (n % rows k) (n / rows k)
-  place-first n = record { at = sym (div-add-mod' n (rows k)); row = mod-lt n (rows-pos k) }
 
   pub place-down : {n i j : ℕ} → Place n i j → (i + 1 ≡ rows k → ⊥) → Place (n + 1) (i + 1) j
   place-down {n} {i} {j} p h = let z : ¬ (i + 1 ≡ rows k) = h in record { at = omega (arith, p .at); row = omega (arith, p .row) }

@@ -1,15 +1,10 @@
 // The walk over the cells: additions, comparisons and table reads.
 use laws::Leaf;
 use wcdma_shape::Shape;
+use wcdma_shape::wide16;
 ghost use mathlib.Core.Path.{_≡_};
 ghost use Prim.Native.Nat.{_+_, _-_, _%_, _<_, _≤_};
 ghost use Rattle.wcdma_cells.specs.Post.{entryAt, CellIn, CellOf, ColumnIn, ColumnOf, FillIn, WentOf};
-
-pub fn wide16(x: u16) -> usize
-    ensures { λ r. ⌜ r ≡ x ⌝ }
-{
-    x as usize
-}
 
 // U(j), where s is what the table has for it.
 fn entry_at(p: usize, s: usize, j: usize) -> usize

@@ -5,6 +5,7 @@ use mathlib.Core.Bool.{Bool, true, cond}
 use mathlib.Core.Path.{_≡_}
 use lib.ListN.{getD, length}
 use lib.Dec.{eqb}
+use Rattle.wcdma_shape.specs.Rectangle.{rows, prime}
 use Rattle.wcdma_shape.specs.Powers.{power, isTableRoot}
 use Rattle.wcdma_setup.specs.Numbers.{nextQ, qOf, allFound}
 
@@ -22,6 +23,10 @@ pub record NumbersIn (r : ℕ) (q : List ℕ) : Type 0 where
 pub record NumbersOf (m r : ℕ) (q : List ℕ) (found : Bool) : Type 0 where
   pub all : found ≡ allFound m 1 (r - 1)
   pub each : found ≡ true → (i : ℕ) → i < r → getD q i 0 ≡ qOf m i
+
+-- they are the numbers of the rows of a block
+abbrev pub NumbersAre : ℕ → List ℕ → Type 0
+NumbersAre k q = (x : ℕ) → x < rows k → getD q x 0 ≡ qOf (prime k - 1) x
 
 -- how much less than the power a column's number is: 1 where there are p - 1 columns
 abbrev pub shortBy : ℕ → ℕ → ℕ

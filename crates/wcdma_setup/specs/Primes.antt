@@ -1,4 +1,4 @@
--- What a prime is, that the table holds all the primes from 7 to 257, and what the search for q finds. Rests on Numbers.
+-- What a prime is, that the table of crate wcdma_shape holds all the primes from 7 to 257, and what the search for q finds. Rests on Numbers.
 use Prim.Native.Nat.{ℕ, zero, suc, _+_, _-_, _%_, _≤_, _<_}
 use mathlib.Core.Bool.{Bool, true, false, cond, not, _&&_, false≢true, true≢false}
 use mathlib.Core.Path.{_≡_, refl, ap, sym, _∙_, subst}

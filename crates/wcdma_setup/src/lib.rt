@@ -1,4 +1,4 @@
-// The set-up of a WCDMA block, 3GPP TS 25.212 4.2.3.2.3: the powers S and the numbers q of its rectangle, each by its definition in specs/. A
+// The set-up of a WCDMA block, 3GPP TS 25.212 4.2.3.2.3: the powers S (defined in crate wcdma_shape, specs/Powers.antt) and the numbers q of its rectangle (specs/Numbers.antt). A
 // walk pays this once a call.
 use residues::gcd_of;
 ghost use mathlib.Core.Path.{_≡_};

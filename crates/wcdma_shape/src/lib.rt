@@ -122,7 +122,7 @@ fn wide8(x: u8) -> usize
     x as usize
 }
 
-fn wide16(x: u16) -> usize
+pub fn wide16(x: u16) -> usize
     ensures { λ r. ⌜ r ≡ x ⌝ }
 {
     x as usize

@@ -1,4 +1,4 @@
--- What the parts of a call are given and ensure: the search for q, and the walk by its numbers. Rests on the set-up. These are definitions.
+-- What the parts of a call are given and ensure: the search for q, and the walk by its numbers. Rests on the shape and the set-up. These are definitions.
 use Prim.Native.Nat.{ℕ, _≤_}
 use mathlib.Core.Bool.{Bool, true, not}
 use mathlib.Core.List.{List}
@@ -8,7 +8,7 @@ use Rattle.wcdma_shape.specs.declared.Shape.{Shape}
 use Rattle.wcdma_shape.specs.Rectangle.{cells}
 use Rattle.wcdma_setup.specs.Numbers.{searchFails}
 use Rattle.wcdma_shape.specs.Post.{ShapeOf}
-use Rattle.wcdma_rows.specs.Post.{NumbersAre}
+use Rattle.wcdma_setup.specs.Post.{NumbersAre}
 
 -- the search for q: whether it succeeds, and then the numbers
 pub record SearchIn (z : Shape) (q : List ℕ) : Type 0 where

@@ -73,7 +73,7 @@ pub fn address_of(k: usize, t: usize) -> Single
             if k <= t {
                 return Single::Barred(4);
             }
-            Single::At(wcdma_cells::wide16(table[t]))
+            Single::At(wcdma_shape::wide16(table[t]))
         }
     }
 }
@@ -84,7 +84,7 @@ fn find(list: &[u16], a: usize) -> usize
 {
     let mut i = 0;
     while i < list.len() {
-        if wcdma_cells::wide16(list[i]) == a {
+        if wcdma_shape::wide16(list[i]) == a {
             return i;
         }
         i += 1;

@@ -1,7 +1,7 @@
 -- The arguments as a line: a space after each. One that is empty, or too long to be taken in, stands there as a question mark. What the arguments
 -- are is the system's to say, so the contracts speak of some words, of at most 48 bytes each and at most eight; the last one comes first.
 use Prim.Native.Nat.{ℕ, _+_, _≤_, _<_, min}
-use mathlib.Core.Path.{_≡_, _∙_, ap, sym, refl, subst}
+use mathlib.Core.Path.{_≡_, sym, refl, subst}
 use mathlib.Core.List.{List, [], _∷_}
 use native.Mathlib.Omega.{arith}
 use lib.ListN.{length}

@@ -1,11 +1,7 @@
+-- `answer_lines` ends: a budget counts down.
 use borrow.Author.Needs.{needs}
 use Rattle.interleaver.proofs.answer_lines.Statement.{statement}
 use Rattle.interleaver.proofs.answer_lines.Tie as tie
-use Rattle.interleaver.proofs.answer_lines.Reads as reads
-use Rattle.interleaver.proofs.answer_lines.Lts as lts
-use Rattle.interleaver.proofs.answer_first.Reads as answer-first-reads
-use Rattle.interleaver.proofs.told.expected.Reads as expected-reads
-use Rattle.words.proofs.line.read.Reads as read-reads
 
 abbrev Inv-loop : tie.InvT-loop
 Inv-loop room₀ turns₀ t4 room turns = Unit {0}

@@ -1,3 +1,4 @@
+-- `lines::append` stores s byte by byte, as far as there is room.
 use borrow.Author.Needs.{needs}
 use Prim.Native.Nat.{_-_}
 use native.Mathlib.Omega.{arith}
@@ -5,8 +6,6 @@ use lib.ListN.{length}
 use Rattle.lines.specs.Appended.{Appending, append-first, append-goes, append-full, append-done}
 use Rattle.lines.proofs.append.Statement.{statement}
 use Rattle.lines.proofs.append.Tie as tie
-use Rattle.lines.proofs.append.Reads as reads
-use Rattle.lines.proofs.append.Lts as lts
 
 abbrev Inv-loop : tie.InvT-loop
 Inv-loop room₀ from s at₀ i₀ room at i = Appending room₀ from s room at i

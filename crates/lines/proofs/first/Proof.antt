@@ -1,14 +1,13 @@
+-- `lines::first` is the first n bytes.
 use mathlib.Core.Path.{sym}
 use lib.Seq.{take-all}
-use Rattle.lines.specs.Words.{counted}
+use lib.Seq.{length-take-le}
 use borrow.Author.Needs.{needs}
 use Rattle.lines.proofs.first.Statement.{statement}
 use Rattle.lines.proofs.first.Tie as tie
-use Rattle.lines.proofs.first.Reads as reads
-use Rattle.lines.proofs.first.Lts as lts
 
 slice-aggregate-result : tie.Need-slice-aggregate-result
-slice-aggregate-result c = counted _ _ (search needs)
+slice-aggregate-result c = sym (length-take-le _ _ (search needs))
 
 returns : tie.Need-returns
 returns c = search needs

@@ -1,11 +1,9 @@
+-- `lines::word` is word i: spaces and words in turns.
 use borrow.Author.Needs.{needs}
 use Prim.Native.Nat.{_-_}
 use Rattle.lines.specs.Words.{Wording, word-first, word-passed, word-found}
 use Rattle.lines.proofs.word.Statement.{statement}
 use Rattle.lines.proofs.word.Tie as tie
-use Rattle.lines.proofs.word.Reads as reads
-use Rattle.lines.proofs.word.Lts as lts
-use Rattle.lines.proofs.run_end.Reads as run-end-reads
 
 abbrev Inv-loop : tie.InvT-loop
 Inv-loop line i at₀ k₀ at k = Wording line i at k

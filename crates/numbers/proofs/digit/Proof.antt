@@ -1,10 +1,9 @@
+-- `numbers::digit` is what a byte says.
 use borrow.Author.Tests.{lt-ltb, le-ltb}
 use Rattle.numbers.specs.Decimal.{digitOf}
 use borrow.Author.Needs.{needs}
 use Rattle.numbers.proofs.digit.Statement.{statement}
 use Rattle.numbers.proofs.digit.Tie as tie
-use Rattle.numbers.proofs.digit.Reads as reads
-use Rattle.numbers.proofs.digit.Lts as lts
 
 returns : tie.Need-returns
 unfolding digitOf

@@ -1,13 +1,11 @@
+-- `numbers::digits` is what the digits say: the number so far times ten, and the next.
 use borrow.Author.Needs.{needs}
-use Rattle.numbers.specs.Decimal.{Reading, digitOf, reads-end, reads-wrong, reads-large, reads-more}
-use mathlib.Core.Path.{_∙_, sym, refl}
-use lib.ListN.{length, getD}
-use Prim.Native.Nat.{_≤_, _-_, _*_, _+_}
+use Rattle.numbers.specs.Decimal.{Reading, reads-end, reads-wrong, reads-large, reads-more}
+use mathlib.Core.Path.{refl}
+use lib.ListN.{length}
+use Prim.Native.Nat.{_-_}
 use Rattle.numbers.proofs.digits.Statement.{statement}
 use Rattle.numbers.proofs.digits.Tie as tie
-use Rattle.numbers.proofs.digits.Reads as reads
-use Rattle.numbers.proofs.digits.Lts as lts
-use Rattle.numbers.proofs.digit.Reads as digit-reads
 
 abbrev Inv-loop : tie.InvT-loop
 Inv-loop s v₀ i₀ v i = Reading s v i

@@ -1,12 +1,10 @@
+-- `numbers::read` is what the word says.
 use mathlib.Core.Path.{_∙_}
 use borrow.Author.Tests.{eq-eqb, ne-eqb, lt-ltb, le-ltb}
 use Rattle.numbers.specs.Decimal.{saidBy}
 use borrow.Author.Needs.{needs}
 use Rattle.numbers.proofs.read.Statement.{statement}
 use Rattle.numbers.proofs.read.Tie as tie
-use Rattle.numbers.proofs.read.Reads as reads
-use Rattle.numbers.proofs.read.Lts as lts
-use Rattle.numbers.proofs.digits.Reads as digits-reads
 
 returns : tie.Need-returns
 unfolding saidBy

@@ -1,12 +1,11 @@
+-- `filters::blocked::in_parts`: each buffer is cut to the block's bytes, which it has room for.
+use mathlib.Core.Path.{sym}
 use native.Mathlib.Nat.{mul-le-mul}
 use Prim.Native.Nat.{_*_, _≤_}
-use Rattle.lines.specs.Words.{counted}
+use lib.Seq.{length-take-le}
 use borrow.Author.Needs.{needs}
 use Rattle.filters.proofs.blocked.in_parts.Statement.{statement}
 use Rattle.filters.proofs.blocked.in_parts.Tie as tie
-use Rattle.filters.proofs.blocked.in_parts.Reads as reads
-use Rattle.filters.proofs.blocked.in_parts.Lts as lts
-use Rattle.filters.proofs.blocked.turns.Reads as turns-reads
 
 cast-n : tie.Need-cast-n
 cast-n c = search needs
@@ -27,13 +26,13 @@ slice-relend-prefix-turns : tie.Need-slice-relend-prefix-turns
 slice-relend-prefix-turns c = search needs
 
 slice-aggregate-turns : tie.Need-slice-aggregate-turns
-slice-aggregate-turns c = counted _ _ (search needs)
+slice-aggregate-turns c = sym (length-take-le _ _ (search needs))
 
 slice-relend-prefix-turns-2 : tie.Need-slice-relend-prefix-turns-2
 slice-relend-prefix-turns-2 c = search needs
 
 slice-aggregate-turns-2 : tie.Need-slice-aggregate-turns-2
-slice-aggregate-turns-2 c = counted _ _ (search needs)
+slice-aggregate-turns-2 c = sym (length-take-le _ _ (search needs))
 
 turns-requires : tie.Need-turns-requires
 turns-requires c κs = search needs

@@ -1,12 +1,10 @@
+-- `filters::blocked::read_block` ends: what is left to read falls.
 use borrow.Author.Needs.{needs}
 use mathlib.Core.Path.{_≡_}
 use lib.ListN.{length}
 use Prim.Native.Nat.{_≤_, _-_}
 use Rattle.filters.proofs.blocked.read_block.Statement.{statement}
 use Rattle.filters.proofs.blocked.read_block.Tie as tie
-use Rattle.filters.proofs.blocked.read_block.Reads as reads
-use Rattle.filters.proofs.blocked.read_block.Lts as lts
-use Rattle.filters.proofs.read_some.Reads as read-some-reads
 
 abbrev Inv-loop : tie.InvT-loop
 Inv-loop block₀ at₀ block at = (at ≤ length block) × (length block ≡ length block₀)

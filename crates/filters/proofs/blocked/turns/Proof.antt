@@ -1,11 +1,9 @@
+-- `filters::blocked::turns` ends: a budget counts down.
 use borrow.Author.Needs.{needs}
 use mathlib.Core.Path.{_≡_}
 use lib.ListN.{length}
 use Rattle.filters.proofs.blocked.turns.Statement.{statement}
 use Rattle.filters.proofs.blocked.turns.Tie as tie
-use Rattle.filters.proofs.blocked.turns.Reads as reads
-use Rattle.filters.proofs.blocked.turns.Lts as lts
-use Rattle.filters.proofs.blocked.turn.Reads as turn-reads
 
 abbrev Inv-loop : tie.InvT-loop
 Inv-loop way set width src₀ dst₀ left₀ src dst left = (length src ≡ length src₀) × (length dst ≡ length dst₀)

@@ -1,11 +1,9 @@
-use Rattle.lines.specs.Words.{counted}
+-- `filters::streamed::turn`: what was read is a part of its buffer, and so is what is written.
+use mathlib.Core.Path.{sym}
+use lib.Seq.{length-take-le}
 use borrow.Author.Needs.{needs}
 use Rattle.filters.proofs.streamed.turn.Statement.{statement}
 use Rattle.filters.proofs.streamed.turn.Tie as tie
-use Rattle.filters.proofs.streamed.turn.Reads as reads
-use Rattle.filters.proofs.streamed.turn.Lts as lts
-use Rattle.filters.proofs.read_some.Reads as read-some-reads
-use Rattle.filters.proofs.streamed.send.Reads as send-reads
 
 read-some-requires : tie.Need-read-some-requires
 read-some-requires c κs = search needs
@@ -32,7 +30,7 @@ slice-relend-prefix-send : tie.Need-slice-relend-prefix-send
 slice-relend-prefix-send c = search needs
 
 slice-aggregate-send-2 : tie.Need-slice-aggregate-send-2
-slice-aggregate-send-2 c = counted _ _ (search needs)
+slice-aggregate-send-2 c = sym (length-take-le _ _ (search needs))
 
 send-requires : tie.Need-send-requires
 send-requires c κs = search needs

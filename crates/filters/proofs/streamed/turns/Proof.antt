@@ -1,11 +1,9 @@
+-- `filters::streamed::turns` ends: a budget counts down.
 use borrow.Author.Needs.{needs}
 use mathlib.Core.Path.{_≡_}
 use lib.ListN.{length}
 use Rattle.filters.proofs.streamed.turns.Statement.{statement}
 use Rattle.filters.proofs.streamed.turns.Tie as tie
-use Rattle.filters.proofs.streamed.turns.Reads as reads
-use Rattle.filters.proofs.streamed.turns.Lts as lts
-use Rattle.filters.proofs.streamed.turn.Reads as turn-reads
 
 abbrev Inv-loop : tie.InvT-loop
 Inv-loop way store₀ room₀ out₀ s₀ left₀ store room out s left = (length store ≡ length store₀) × (length room ≡ length room₀) × (length out ≡ length out₀)

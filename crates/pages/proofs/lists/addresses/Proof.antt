@@ -1,14 +1,9 @@
+-- `pages::lists::addresses` ends, and its text stays in its room.
 use borrow.Author.Needs.{needs}
 use Prim.Native.Nat.{_≤_, _-_}
 use lib.ListN.{length}
 use Rattle.pages.proofs.lists.addresses.Statement.{statement}
 use Rattle.pages.proofs.lists.addresses.Tie as tie
-use Rattle.pages.proofs.lists.addresses.Reads as reads
-use Rattle.pages.proofs.lists.addresses.Lts as lts
-use Rattle.pages.proofs.wide.Reads as wide-reads
-use Rattle.words.proofs.text.flush.Reads as flush-reads
-use Rattle.words.proofs.text.put.Reads as put-reads
-use Rattle.words.proofs.text.put_number.Reads as put-number-reads
 
 abbrev Inv-loop : tie.InvT-loop
 Inv-loop slots n room₀ at₀ i₀ t6 room at i = i ≤ length slots

@@ -1,11 +1,9 @@
-use Rattle.lines.specs.Words.{counted}
+-- `pages::lists::walk`: the part of the table is as long as the room.
+use mathlib.Core.Path.{sym}
+use lib.Seq.{length-take-le}
 use borrow.Author.Needs.{needs}
 use Rattle.pages.proofs.lists.walk.Statement.{statement}
 use Rattle.pages.proofs.lists.walk.Tie as tie
-use Rattle.pages.proofs.lists.walk.Reads as reads
-use Rattle.pages.proofs.lists.walk.Lts as lts
-use Rattle.pages.proofs.lists.least.Reads as least-reads
-use Rattle.pages.proofs.lists.walk_into.Reads as walk-into-reads
 
 least-requires : tie.Need-least-requires
 least-requires c κs = search needs
@@ -14,7 +12,7 @@ array-borrow-prefix-table : tie.Need-array-borrow-prefix-table
 array-borrow-prefix-table c = search needs
 
 slice-aggregate-walk-into : tie.Need-slice-aggregate-walk-into
-slice-aggregate-walk-into c = counted _ _ (search needs)
+slice-aggregate-walk-into c = sym (length-take-le _ _ (search needs))
 
 walk-into-requires : tie.Need-walk-into-requires
 walk-into-requires c κs = search needs

@@ -1,12 +1,8 @@
+-- `pages::profiles::profile` ends: the bits rise.
 use borrow.Author.Needs.{needs}
 use Prim.Native.Nat.{_≤_, _-_}
 use Rattle.pages.proofs.profiles.profile.Statement.{statement}
 use Rattle.pages.proofs.profiles.profile.Tie as tie
-use Rattle.pages.proofs.profiles.profile.Reads as reads
-use Rattle.pages.proofs.profiles.profile.Lts as lts
-use Rattle.pages.proofs.profiles.front.Reads as front-reads
-use Rattle.pages.proofs.profiles.sizes.Reads as sizes-reads
-use Rattle.pages.proofs.profiles.verdict.Reads as verdict-reads
 
 abbrev Inv-loop : tie.InvT-loop
 Inv-loop p first₀ bits₀ first bits = bits ≤ 9

@@ -1,14 +1,8 @@
+-- `pages::profiles::sizes` ends: the size rises.
 use borrow.Author.Needs.{needs}
 use Prim.Native.Nat.{_≤_, _-_}
 use Rattle.pages.proofs.profiles.sizes.Statement.{statement}
 use Rattle.pages.proofs.profiles.sizes.Tie as tie
-use Rattle.pages.proofs.profiles.sizes.Reads as reads
-use Rattle.pages.proofs.profiles.sizes.Lts as lts
-use Rattle.pages.proofs.profiles.Row.none.Reads as none-reads
-use Rattle.pages.proofs.profiles.Row.show.Reads as show-reads
-use Rattle.pages.proofs.profiles.Row.with.Reads as with-reads
-use Rattle.pages.proofs.say.Reads as say-reads
-use Rattle.pages.proofs.profiles.verdict.Reads as verdict-reads
 
 abbrev Inv-loop : tie.InvT-loop
 Inv-loop profile bits row₀ n₀ t5 row n = n ≤ 6145

@@ -1,12 +1,8 @@
+-- `pages::profiles::table` ends: the profile rises.
 use borrow.Author.Needs.{needs}
 use Prim.Native.Nat.{_≤_, _-_}
 use Rattle.pages.proofs.profiles.table.Statement.{statement}
 use Rattle.pages.proofs.profiles.table.Tie as tie
-use Rattle.pages.proofs.profiles.table.Reads as reads
-use Rattle.pages.proofs.profiles.table.Lts as lts
-use Rattle.pages.proofs.profiles.profile.Reads as profile-reads
-use Rattle.pages.proofs.say.Reads as say-reads
-use Rattle.pages.proofs.profiles.verdict.Reads as verdict-reads
 
 abbrev Inv-loop : tie.InvT-loop
 Inv-loop p₀ p = p ≤ 10

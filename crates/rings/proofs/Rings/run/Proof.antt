@@ -1,9 +1,9 @@
--- A feed, ring by ring. The invariant: the rings below x are done, and first is where ring x begins.
+-- A run, ring by ring. The invariant: the rings below x are done, and first is where ring x begins.
 use Prim.Native.Nat.{_-_}
 use mathlib.Core.Path.{sym, _∙_}
 use native.Mathlib.Omega.{arith}
 use Rattle.delay.specs.Loops.{Served}
-use Rattle.rings.specs.Feeding.{store-length, ring-fits, serving-first, serving-next, serving-all}
+use Rattle.rings.specs.Serving.{store-length, ring-fits, serving-first, serving-next, serving-all}
 use borrow.Author.Needs.{needs}
 use Rattle.rings.proofs.Rings.run.Statement.{statement}
 use Rattle.rings.proofs.Rings.run.Tie as tie

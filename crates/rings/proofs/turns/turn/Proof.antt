@@ -1,8 +1,7 @@
 -- The invariant: of the ring, the bytes below i are moved, place is where byte i goes, and left bytes are still to come.
-use Prim.Native.Nat.{_-_, _<_, _≤_}
+use Prim.Native.Nat.{_-_}
 use native.Mathlib.Omega.{arith}
 use lib.ListN.{length}
-use borrow.Author.Needs.{needs}
 use Rattle.delay.specs.Lane.{Left}
 use Rattle.delay.specs.Loops.{left-rest, rest-left, stretch-left, Rounds, rounds-none, stretch-fits, rounds-more, left-after, rounds-all}
 use Rattle.rings.proofs.turns.turn.Statement.{statement}

@@ -1,14 +1,10 @@
+-- `words::arguments::join`: the line so far is that of the arguments so far.
 use borrow.Author.Needs.{needs}
-use Prim.Native.Nat.{_≤_, _-_}
+use Prim.Native.Nat.{_-_}
 use native.Mathlib.Omega.{arith}
-use Rattle.words.specs.Joined.{Joined, Going, joined-none, joined-more}
+use Rattle.words.specs.Joined.{Going, joined-none, joined-more}
 use Rattle.words.proofs.arguments.join.Statement.{statement}
 use Rattle.words.proofs.arguments.join.Tie as tie
-use Rattle.words.proofs.arguments.join.Reads as reads
-use Rattle.words.proofs.arguments.join.Lts as lts
-use Rattle.os.proofs.arg_count.Reads as arg-count-reads
-use Rattle.words.proofs.arguments.up_to_nine.Reads as up-to-nine-reads
-use Rattle.words.proofs.arguments.with_argument.Reads as with-argument-reads
 
 abbrev Inv-loop : tie.InvT-loop
 Inv-loop room₀ n at₀ i₀ room at i = Going room₀ n room at i

@@ -1,14 +1,10 @@
+-- `words::arguments::with_argument`: the line with one argument more.
 use borrow.Author.Needs.{needs}
 use native.Mathlib.Omega.{arith}
 use lib.ListN.{take}
 use Rattle.words.specs.Joined.{with-argument}
 use Rattle.words.proofs.arguments.with_argument.Statement.{statement}
 use Rattle.words.proofs.arguments.with_argument.Tie as tie
-use Rattle.words.proofs.arguments.with_argument.Reads as reads
-use Rattle.words.proofs.arguments.with_argument.Lts as lts
-use Rattle.os.proofs.arg.Reads as arg-reads
-use Rattle.words.proofs.arguments.with_word.Reads as with-word-reads
-use Rattle.lines.proofs.append.Reads as append-reads
 
 slice-aggregate-arg : tie.Need-slice-aggregate-arg
 slice-aggregate-arg c = search needs

@@ -1,11 +1,9 @@
+-- `words::arguments::with_word`: the line with one word more, and a space.
 use borrow.Author.Needs.{needs}
 use native.Mathlib.Omega.{arith}
 use Rattle.words.specs.Joined.{shown-none, shown-some, as-shown}
 use Rattle.words.proofs.arguments.with_word.Statement.{statement}
 use Rattle.words.proofs.arguments.with_word.Tie as tie
-use Rattle.words.proofs.arguments.with_word.Reads as reads
-use Rattle.words.proofs.arguments.with_word.Lts as lts
-use Rattle.lines.proofs.append.Reads as append-reads
 
 slice-aggregate-append : tie.Need-slice-aggregate-append
 slice-aggregate-append c = search needs

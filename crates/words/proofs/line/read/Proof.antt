@@ -1,13 +1,10 @@
+-- `words::line::read`: what came before the line's end stands in the room.
 use borrow.Author.Needs.{needs}
 use Prim.Native.Nat.{_≤_, _-_}
 use native.Mathlib.Omega.{arith}
 use Rattle.words.specs.Room.{Taken, taken-none, taken-more, taken-as, taken-nothing}
 use Rattle.words.proofs.line.read.Statement.{statement}
 use Rattle.words.proofs.line.read.Tie as tie
-use Rattle.words.proofs.line.read.Reads as reads
-use Rattle.words.proofs.line.read.Lts as lts
-use Rattle.words.proofs.line.next_byte.Reads as next-byte-reads
-use Rattle.words.proofs.line.skip_line.Reads as skip-line-reads
 
 abbrev Inv-loop : tie.InvT-loop
 Inv-loop room₀ at₀ room at = (at ≤ 512) × Taken room₀ room at

@@ -1,9 +1,7 @@
+-- `words::line::skip_line` ends: a budget counts down.
 use borrow.Author.Needs.{needs}
 use Rattle.words.proofs.line.skip_line.Statement.{statement}
 use Rattle.words.proofs.line.skip_line.Tie as tie
-use Rattle.words.proofs.line.skip_line.Reads as reads
-use Rattle.words.proofs.line.skip_line.Lts as lts
-use Rattle.words.proofs.line.next_byte.Reads as next-byte-reads
 
 abbrev Inv-loop : tie.InvT-loop
 Inv-loop turns₀ turns = Unit {0}

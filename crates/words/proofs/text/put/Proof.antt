@@ -1,3 +1,4 @@
+-- `words::text::put`: byte by byte, the room written where it is full.
 use borrow.Author.Needs.{needs}
 use mathlib.Core.Path.{_≡_}
 use mathlib.Core.Logic.{⊎-elim}
@@ -7,9 +8,6 @@ use native.Mathlib.Omega.{arith}
 use Rattle.words.specs.Gathered.{Putting, put-first, put-goes, put-turns, put-done}
 use Rattle.words.proofs.text.put.Statement.{statement}
 use Rattle.words.proofs.text.put.Tie as tie
-use Rattle.words.proofs.text.put.Reads as reads
-use Rattle.words.proofs.text.put.Lts as lts
-use Rattle.words.proofs.text.write.Reads as write-reads
 
 abbrev Inv-loop : tie.InvT-loop
 Inv-loop room₀ from s at₀ i₀ room at i = Putting room₀ from s room at i

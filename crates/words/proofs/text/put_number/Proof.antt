@@ -1,11 +1,8 @@
+-- `words::text::put_number`: the digits of n, put.
 use borrow.Author.Needs.{needs}
 use Rattle.words.specs.Gathered.{put-number}
 use Rattle.words.proofs.text.put_number.Statement.{statement}
 use Rattle.words.proofs.text.put_number.Tie as tie
-use Rattle.words.proofs.text.put_number.Reads as reads
-use Rattle.words.proofs.text.put_number.Lts as lts
-use Rattle.io.proofs.decimal.Reads as decimal-reads
-use Rattle.words.proofs.text.put.Reads as put-reads
 
 decimal-requires : tie.Need-decimal-requires
 decimal-requires c κs = search needs

@@ -1,4 +1,4 @@
--- The loop over the rings: twelve branches, steps of 17, from byte t on.
+-- The loop over the rings: twelve branches, steps of 17, from byte t on. Rests on Gives, and on the rings of crate delay.
 use Prim.Native.Nat.{ℕ, _+_, _*_, _/_, _%_, _≤_, _<_}
 use mathlib.Core.Path.{_≡_, refl, sym, ap, _∙_}
 use mathlib.Core.List.{List}
@@ -10,7 +10,7 @@ use Rattle.delay.specs.Machine.{offset}
 use Rattle.delay.specs.Slots.{offset-end}
 use Rattle.delay.specs.Lane.{Leads, Ring, Turned, Passed}
 use Rattle.delay.specs.Loops.{Served, served-none, served-more, served-all}
-use Rattle.rings.specs.Ran.{Ran}
+use Rattle.rings.specs.Gives.{RingsRan}
 
 -- the store of 1,122 bytes holds the rings, and no byte more
 pub store-length : offset 17 12 ≡ 1122
@@ -37,5 +37,5 @@ module _ {way : Way} {t : ℕ} {store₀ input : List ℕ} where
         served-more (lit< tt) (lit< tt) h g (turned .lane way 17 t x ring (g .rings .long) l (ap (λ (j : ℕ). first + j) e))
 
     -- all rings: the bytes one after the other
-    pub serving-all : 12 ≤ x → Ran way t store₀ input store out
+    pub serving-all : 12 ≤ x → RingsRan way t store₀ input store out
     serving-all k = let all = served-all (lit< tt) (lit< tt) k g in record { stored = all .0; written = all .1 }
