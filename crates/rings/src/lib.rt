@@ -1,77 +1,106 @@
-// The rings of the DVB byte machine: twelve branches, queues in steps of 17 bytes. Nothing is tested here: whoever calls has judged store and
-// lengths.
-mod turns; // turns.rt: the loops over one ring
-
-use laws::Way;
+// The loops over one ring of a branch machine, for any number of branches. A ring divides once a feed, to know how many bytes it has in it; no
+// loop divides, and none reads a table. Nothing is tested here: whoever calls has judged store and lengths.
 ghost use mathlib.Core.Path.{_≡_};
-ghost use Prim.Native.Nat.{_+_, _*_, _/_, _%_, _<_};
+ghost use Prim.Native.Nat.{_+_, _-_, _*_, _≤_, _<_};
 ghost use lib.ListN.{length};
-ghost use Rattle.delay.specs.Machine.{ringOf};
-ghost use Rattle.delay.specs.Lane.{Leads};
-ghost use Rattle.rings.specs.Gives.{RingsRan};
+ghost use Rattle.delay.specs.Lane.{wrapOf, Left, Turned, Passed};
+ghost use Rattle.delay.specs.Loops.{Stretching};
 
-// The rings as they stand before a byte: its number, or that number modulo 5,654,880.
-pub struct Rings {
-    pub phase: u32,
+// How many bytes a ring has of those from `from` to `end`: the first of them, and each branches-th after it.
+fn left_of(branches: usize, from: usize, end: usize) -> usize
+    requires { ⌜ 0 < branches ⌝ }
+    ensures { λ r. ⌜ Left branches (end - from) r ⌝ }
+{
+    if from < end {
+        (end - from - 1) / branches + 1
+    } else {
+        0
+    }
 }
 
-impl Rings {
-    const BRANCHES: usize = 12;
-
-    const STEP: usize = 17;
-
-    // The ring of branch j, and the branch of ring j: the queue of STEP * j bytes, or counted from the other end.
-    fn ring(way: Way, j: usize) -> usize
-        requires { ⌜ j < 12 ⌝ }
-        ensures { λ r. ⌜ (r ≡ ringOf way 12 j) × (r < 12) ⌝ }
-    {
-        match way {
-            Way::Interleaver => j,
-            Way::Deinterleaver => Self::BRANCHES - 1 - j,
-        }
+// Where a stretch from place on ends: at the ring's end, or where the bytes that are left do.
+fn until(place: usize, last: usize, left: usize) -> usize
+    requires { ⌜ (place < last) × (0 < left) ⌝ }
+    ensures { λ r. ⌜ (place < r) × (r ≤ last) × (r ≤ place + left) ⌝ }
+{
+    if left < last - place {
+        place + left
+    } else {
+        last
     }
+}
 
-    // The branch of the next byte.
-    fn branch(self) -> usize
-        ensures { λ r. ⌜ (r ≡ self .phase % 12) × (r < 12) ⌝ }
-    {
-        self.phase as usize % Self::BRANCHES
+// A place, or the ring's first where it is past the ring's last.
+fn wrap(place: usize, first: usize, last: usize) -> usize
+    ensures { λ r. ⌜ r ≡ wrapOf place first last ⌝ }
+{
+    if last <= place { first } else { place }
+}
+
+// The bytes that pass through: byte from, and each branches-th after it.
+pub fn pass(branches: usize, from: usize, input: &[u8], out: &mut [u8])
+    requires { ⌜ (0 < branches) × (branches < 65536) × (length (now out) ≡ length (now input)) ⌝ }
+    ensures { λ _. ⌜ Passed branches from (now (input .entry)) (now (out .entry)) (now (out .exit)) ⌝ }
+{
+    let mut i = from;
+    while i < input.len() {
+        out[i] = input[i];
+        i += branches;
     }
+}
 
-    // How many bytes come before the first of ring x.
-    fn lead(self, way: Way, x: usize) -> usize
-        requires { ⌜ x < 12 ⌝ }
-        ensures { λ r. ⌜ Leads way 12 (self .phase) x r ⌝ }
-    {
-        let j = Self::ring(way, x);
-        let m = self.branch();
-        if j < m { j + Self::BRANCHES - m } else { j - m }
+// A stretch of neighbouring places, from at to stop - 1: byte from goes to the first of them, and each branches-th after it to the next. Returns
+// the byte that comes after them.
+fn stretch(
+    branches: usize,
+    from: usize,
+    at: usize,
+    stop: usize,
+    store: &mut [u8],
+    input: &[u8],
+    out: &mut [u8],
+) -> usize
+    requires { ⌜ (branches < 65536) × (at ≤ stop) × (stop ≤ length (now store))
+        × (branches * stop + from < length (now input) + branches + branches * at)
+        × (length (now out) ≡ length (now input)) ⌝ }
+    ensures { λ r. ⌜ Stretching branches (now (input .entry)) (now (store .entry)) (now (out .entry))
+        from at stop (now (store .exit)) (now (out .exit)) r stop ⌝ }
+{
+    let mut i = from;
+    let mut place = at;
+    while place != stop {
+        let byte = input[i];
+        out[i] = store[place];
+        store[place] = byte;
+        place += 1;
+        i += branches;
     }
+    i
+}
 
-    // The slot, in the ring of STEP * x bytes, of the byte that comes k bytes on.
-    fn slot(self, x: usize, k: usize) -> usize
-        requires { ⌜ (0 < x) × (x < 12) × (k < 12) ⌝ }
-        ensures { λ r. ⌜ (r ≡ (self .phase + k) / 12 % (17 * x)) × (r < 17 * x) ⌝ }
-    {
-        (self.phase as usize + k) / Self::BRANCHES % (Self::STEP * x)
-    }
-
-    // The bytes of a slice, ring by ring: bytes of different rings never meet, so the order of the rings does not matter.
-    pub fn run(self, way: Way, store: &mut [u8], input: &[u8], out: &mut [u8])
-        requires { ⌜ (length (now store) ≡ 1122) × (length (now out) ≡ length (now input)) ⌝ }
-        ensures { λ _. ⌜ RingsRan way (self .phase) (now (store .entry)) (now (input .entry)) (now (store .exit)) (now (out .exit)) ⌝ }
-    {
-        let none = self.lead(way, 0);
-        turns::pass(Self::BRANCHES, none, input, out);
-        let mut first = 0;
-        let mut x = 1;
-        while x < Self::BRANCHES {
-            let last = first + Self::STEP * x;
-            let i = self.lead(way, x);
-            let place = first + self.slot(x, i);
-            turns::turn(Self::BRANCHES, first, last, i, place, store, input, out);
-            first = last;
-            x += 1;
-        }
+// The bytes of the ring at places first to last - 1: byte from, which goes to place at, and each branches-th after it.
+pub fn turn(
+    branches: usize,
+    first: usize,
+    last: usize,
+    from: usize,
+    at: usize,
+    store: &mut [u8],
+    input: &[u8],
+    out: &mut [u8],
+)
+    requires { ⌜ (0 < branches) × (branches < 65536) × (first < last) × (at < last)
+        × (last ≤ length (now store)) × (length (now out) ≡ length (now input)) ⌝ }
+    ensures { λ _. ⌜ Turned branches first last from at (now (store .entry)) (now (input .entry)) (now (out .entry))
+        (now (store .exit)) (now (out .exit)) ⌝ }
+{
+    let mut i = from;
+    let mut place = at;
+    let mut left = left_of(branches, from, input.len());
+    while left > 0 {
+        let stop = until(place, last, left);
+        i = stretch(branches, i, place, stop, store, input, out);
+        left -= stop - place;
+        place = wrap(stop, first, last);
     }
 }

@@ -1,11 +1,12 @@
 // The DVB byte interleaver and deinterleaver: a record by value, a lent store. A call is refused with a number, and then it touches
 // nothing, or it is done.
 use laws::Way;
-use rings::Rings;
 ghost use mathlib.Core.Path.{_≡_};
-ghost use Prim.Native.Nat.{_+_, _%_, _<_};
+ghost use Prim.Native.Nat.{_+_, _*_, _/_, _%_, _<_};
 ghost use lib.ListN.{length};
 ghost use Rattle.laws.specs.declared.Way.the-variants.{Interleaver, Deinterleaver};
+ghost use Rattle.delay.specs.Machine.{ringOf};
+ghost use Rattle.delay.specs.Lane.{Leads};
 ghost use Rattle.streams.specs.Dvb.{startRecord, startStore, Runs};
 ghost use Rattle.streams.specs.Answers.{sayStarted, sayFed, startedOf, startedStore, fedOf, storeOf, outputOf};
 
@@ -27,6 +28,10 @@ pub enum Fed {
 }
 
 impl Stream {
+    pub const BRANCHES: usize = 12;
+
+    pub const STEP: usize = 17;
+
     pub const STORE: usize = 1122;
 
     pub const PHASES: usize = 5654880;
@@ -36,6 +41,42 @@ impl Stream {
         ensures { λ r. ⌜ r ≡ startRecord ⌝ }
     {
         Stream { phase: 0 }
+    }
+
+    // The ring of branch j, and the branch of ring j: the queue of STEP * j bytes, or counted from the other end.
+    fn ring(way: Way, j: usize) -> usize
+        requires { ⌜ j < 12 ⌝ }
+        ensures { λ r. ⌜ (r ≡ ringOf way 12 j) × (r < 12) ⌝ }
+    {
+        match way {
+            Way::Interleaver => j,
+            Way::Deinterleaver => Self::BRANCHES - 1 - j,
+        }
+    }
+
+    // The branch of the next byte.
+    fn branch(self) -> usize
+        ensures { λ r. ⌜ (r ≡ self .phase % 12) × (r < 12) ⌝ }
+    {
+        self.phase as usize % Self::BRANCHES
+    }
+
+    // How many bytes come before the first of ring x.
+    fn lead(self, way: Way, x: usize) -> usize
+        requires { ⌜ x < 12 ⌝ }
+        ensures { λ r. ⌜ Leads way 12 (self .phase) x r ⌝ }
+    {
+        let j = Self::ring(way, x);
+        let m = self.branch();
+        if j < m { j + Self::BRANCHES - m } else { j - m }
+    }
+
+    // The slot, in the ring of STEP * x bytes, of the byte that comes k bytes on.
+    fn slot(self, x: usize, k: usize) -> usize
+        requires { ⌜ (0 < x) × (x < 12) × (k < 12) ⌝ }
+        ensures { λ r. ⌜ (r ≡ (self .phase + k) / 12 % (17 * x)) × (r < 17 * x) ⌝ }
+    {
+        (self.phase as usize + k) / Self::BRANCHES % (Self::STEP * x)
     }
 
     // The record when n bytes have passed.
@@ -49,13 +90,23 @@ impl Stream {
         }
     }
 
-    // The bytes of a slice, and the record after them.
+    // The bytes of a slice, ring by ring: bytes of different rings never meet, so the order of the rings does not matter.
     fn run(self, way: Way, store: &mut [u8], input: &[u8], out: &mut [u8]) -> Stream
         requires { ⌜ (length (now store) ≡ 1122) × (self .phase < 5654880) × (length (now out) ≡ length (now input)) ⌝ }
         ensures { λ r. ⌜ Runs way self (now (store .entry)) (now (input .entry)) r (now (store .exit)) (now (out .exit)) ⌝ }
     {
-        let at = Rings { phase: self.phase };
-        at.run(way, store, input, out);
+        let none = self.lead(way, 0);
+        rings::pass(Self::BRANCHES, none, input, out);
+        let mut first = 0;
+        let mut x = 1;
+        while x < Self::BRANCHES {
+            let last = first + Self::STEP * x;
+            let i = self.lead(way, x);
+            let place = first + self.slot(x, i);
+            rings::turn(Self::BRANCHES, first, last, i, place, store, input, out);
+            first = last;
+            x += 1;
+        }
         self.moved(input.len())
     }
 

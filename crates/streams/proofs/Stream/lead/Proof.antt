@@ -1,8 +1,8 @@
 -- The first byte of a ring comes in this turn or in the next.
 use Rattle.delay.specs.Leading.{leads-on, leads-round}
 use borrow.Author.Needs.{needs}
-use Rattle.rings.proofs.Rings.lead.Statement.{statement}
-use Rattle.rings.proofs.Rings.lead.Tie as tie
+use Rattle.streams.proofs.Stream.lead.Statement.{statement}
+use Rattle.streams.proofs.Stream.lead.Tie as tie
 
 ring-requires : tie.Need-ring-requires
 ring-requires c κs = search needs

@@ -4,8 +4,8 @@ use Prim.Native.Nat.{_-_}
 use native.Mathlib.Omega.{arith}
 use Rattle.delay.specs.Loops.{Stretching, byte-left, stretching-none, stretching-more, stretching-all}
 use borrow.Author.Needs.{needs}
-use Rattle.rings.proofs.turns.stretch.Statement.{statement}
-use Rattle.rings.proofs.turns.stretch.Tie as tie
+use Rattle.rings.proofs.stretch.Statement.{statement}
+use Rattle.rings.proofs.stretch.Tie as tie
 
 abbrev Inv-loop : tie.InvT-loop
 Inv-loop branches from at stop store₀ input out₀ i₀ place₀ store out i place = Stretching branches input store₀ out₀ i₀ place₀ stop store out i place

@@ -4,8 +4,8 @@ use native.Mathlib.Omega.{arith}
 use lib.ListN.{length}
 use Rattle.delay.specs.Lane.{Left}
 use Rattle.delay.specs.Loops.{left-rest, rest-left, stretch-left, Rounds, rounds-none, stretch-fits, rounds-more, left-after, rounds-all}
-use Rattle.rings.proofs.turns.turn.Statement.{statement}
-use Rattle.rings.proofs.turns.turn.Tie as tie
+use Rattle.rings.proofs.turn.Statement.{statement}
+use Rattle.rings.proofs.turn.Tie as tie
 
 abbrev Inv-loop : tie.InvT-loop
 Inv-loop branches first last from at store₀ input out₀ i₀ place₀ left₀ store out i place left =

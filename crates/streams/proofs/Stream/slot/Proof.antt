@@ -3,8 +3,8 @@ use native.Mathlib.Nat.{mod-lt}
 use mathlib.Core.Path.{refl}
 use native.Mathlib.Omega.{arith}
 use borrow.Author.Needs.{needs}
-use Rattle.rings.proofs.Rings.slot.Statement.{statement}
-use Rattle.rings.proofs.Rings.slot.Tie as tie
+use Rattle.streams.proofs.Stream.slot.Statement.{statement}
+use Rattle.streams.proofs.Stream.slot.Tie as tie
 
 cast-result : tie.Need-cast-result
 cast-result c = search needs

@@ -4,8 +4,8 @@ use native.Mathlib.Omega.{arith}
 use Rattle.delay.specs.Loops.{left-some}
 use Prim.Native.Nat.{_-_}
 use borrow.Author.Needs.{needs}
-use Rattle.rings.proofs.turns.left_of.Statement.{statement}
-use Rattle.rings.proofs.turns.left_of.Tie as tie
+use Rattle.rings.proofs.left_of.Statement.{statement}
+use Rattle.rings.proofs.left_of.Tie as tie
 
 sub-result : tie.Need-sub-result
 sub-result c = search needs

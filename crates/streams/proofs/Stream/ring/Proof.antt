@@ -1,8 +1,8 @@
 -- The ring of a branch, by the way.
 use native.Mathlib.Omega.{arith}
 use borrow.Author.Needs.{needs}
-use Rattle.rings.proofs.Rings.ring.Statement.{statement}
-use Rattle.rings.proofs.Rings.ring.Tie as tie
+use Rattle.streams.proofs.Stream.ring.Statement.{statement}
+use Rattle.streams.proofs.Stream.ring.Tie as tie
 
 enum-told : tie.Need-enum-told
 enum-told c = search needs

@@ -1,2 +1,0 @@
-pub mod Gives
-pub mod Serving
