@@ -1,14 +1,16 @@
 -- The rows as they are laid out for a walk: where each begins, by how much its exponent falls, and the exponents where the walk
--- stands. Rests on the shape and the set-up. These are definitions.
-use Prim.Native.Nat.{ℕ, _+_, _*_, _-_, _%_, _<_}
+-- stands; and the addresses that the walk makes of them. Rests on the shape and the set-up. These are definitions.
+use Prim.Native.Nat.{ℕ, _+_, _*_, _-_, _/_, _%_, _<_}
 use mathlib.Core.Bool.{cond}
 use mathlib.Core.List.{List}
 use mathlib.Core.Path.{_≡_}
 use lib.Dec.{ltb}
 use lib.ListN.{getD, length}
+use Rattle.laws.specs.Walk.{Rule}
 use Rattle.wcdma_shape.specs.Rectangle.{rows, prime, cols}
 use Rattle.wcdma_shape.specs.Orders.{rowAt}
 use Rattle.wcdma_setup.specs.Numbers.{qOf}
+use Rattle.wcdma.specs.Turbo.{origin, turboRule}
 
 -- the column that comes next in row x, where the walk stands at row i of column j
 abbrev pub nextCol : ℕ → ℕ → ℕ → ℕ
@@ -23,3 +25,11 @@ pub record Exponents (k i j : ℕ) (at : List ℕ) : Type 0 where
 pub record Rows (k : ℕ) (base fall : List ℕ) : Type 0 where
   pub bases : (x : ℕ) → x < rows k → getD base x 0 ≡ rowAt k x * cols k
   pub falls : (x : ℕ) → x < rows k → getD fall x 0 ≡ prime k - 1 - qOf (prime k - 1) x % (prime k - 1)
+
+-- what the walk makes of a cell, row i of column j: T(i)·C + U(j), by U of its own column
+unfoldable pub plain : ℕ → ℕ → ℕ
+plain k cell = origin k (cell % rows k) (cell / rows k)
+
+-- the rule of a block with those addresses, the exchange of a full rectangle left out. (A walk reads a rule's total and addresses, and nothing else of it.)
+abbrev pub plainRule : ℕ → Rule
+plainRule k = let r = turboRule k in record { total = r .total; address = plain k; l = r .l; m = r .m; fails = r .fails }

@@ -1,5 +1,6 @@
 -- For every K each address from 0 to K - 1 stands exactly once in L, and L and M undo each other. Different cells have different addresses,
--- since different rows have different places T(i) and one row has different entries. Rests on Row, the shape and the set-up.
+-- since different rows have different places T(i), one row has different entries, and the exchange of full rectangles undoes itself. Rests on Row,
+-- Full, the shape and the set-up.
 use Prim.Native.Nat.{ℕ, _+_, _*_, _-_, _/_, _%_, _≤_, _<_}
 use mathlib.Core.Bool.{Bool, true, false, cond}
 use mathlib.Core.Path.{_≡_, refl, ap, ap₂, sym, _∙_}
@@ -21,7 +22,9 @@ use Rattle.wcdma_shape.specs.Orders.{orderOf, rowAt, order-perm, order-listed}
 use Rattle.wcdma_shape.specs.Shape.{choice, rows-pos, rows-le, prime-listed, cols-low, cols-high, fits, cells-le}
 use Rattle.wcdma_shape.specs.Roots.{prime-root}
 use Rattle.wcdma_setup.specs.Found.{q-unit}
-use Rattle.wcdma.specs.Turbo.{entry, address, addresses, turboL, turboM, turboRule}
+use Rattle.wcdma.specs.Turbo.{entry, column, origin, address, addresses, turboL, turboM, turboRule}
+use Rattle.wcdma.specs.Laid.{plain}
+use Rattle.wcdma.specs.Full.{first-row, column-back, column-lt}
 use Rattle.wcdma.specs.Row.{entry-lt, entry-inj}
 
 module _ (k : ℕ) where
@@ -44,6 +47,10 @@ module _ (k : ℕ) where
           let o = order-perm (order-listed k) in
           sym (o .m-of-l i (omega arith)) ∙ ap (λ (x : ℕ). position x (orderOf k)) q ∙ o .m-of-l j (omega arith)
 
+  -- no row but row 0 has T(i) = R - 1
+  pub last-row : (i : ℕ) → i < rows k → rowAt k i ≡ rows k - 1 → i ≡ 0
+  last-row i l e = row-inj i 0 l (rows-pos k) (e ∙ sym (first-row k))
+
   -- a cell's column is one of the columns
   pub col-lt : (n : ℕ) → n < cells k → n / rows k < cols k
   unfolding cells
@@ -65,37 +72,51 @@ module _ (k : ℕ) where
       let a = rows-le k in
       entry-inj (prime k) (root (prime k)) (prime-root k) (qOf (prime k - 1) i) (q-unit (prime-listed k) i (omega arith)) (cols k) (cols-low k) (cols-high k) j h l o e
 
+  -- T(i)·C + U(j) is below the cell total, and is so for one row and one column only
+  pub origin-lt : (i j : ℕ) → i < rows k → j < cols k → origin k i j < cells k
+  unfolding origin cells u
+  origin-lt i j h l = digits-lt (row-lt i h) (u-lt i j h l)
+
+  origin-inj : (i j x y : ℕ) → i < rows k → x < rows k → j < cols k → y < cols k → origin k i j ≡ origin k x y → (i ≡ x) × (j ≡ y)
+  unfolding origin u
+  origin-inj i j x y hi hx hj hy e = (same-row, u-inj i j y hi hj hy (same-u ∙ ap (λ (r : ℕ). u r y) (sym same-row)))
+    where
+      same-row : i ≡ x
+      same-row =
+          row-inj i x hi hx (sym (digits-div (rowAt k i) (u-lt i j hi hj)) ∙ ap (λ (a : ℕ). a / cols k) e ∙ digits-div (rowAt k x) (u-lt x y hx hy))
+
+      same-u : u i j ≡ u x y
+      same-u = sym (digits-mod (rowAt k i) (u-lt i j hi hj)) ∙ ap (λ (a : ℕ). a % cols k) e ∙ digits-mod (rowAt k x) (u-lt x y hx hy)
+
   cell-row : (n : ℕ) → n % rows k < rows k
   cell-row n = mod-lt n (rows-pos k)
 
-  -- every address is below the cell total
+  -- the column that a cell takes is one of the columns
+  taken-lt : (n : ℕ) → n < cells k → column k (n % rows k) (n / rows k) < cols k
+  taken-lt n l = column-lt k (n % rows k) (n / rows k) (col-lt n l)
+
+  -- every address is below the cell total, with the exchange and without it
+  pub plain-lt : (n : ℕ) → n < cells k → plain k n < cells k
+  unfolding plain
+  plain-lt n l = origin-lt (n % rows k) (n / rows k) (cell-row n) (col-lt n l)
+
   pub address-lt : (n : ℕ) → n < cells k → address k n < cells k
-  unfolding address cells u
-  address-lt n l = digits-lt (row-lt (n % rows k) (cell-row n)) (u-lt (n % rows k) (n / rows k) (cell-row n) (col-lt n l))
+  unfolding address
+  address-lt n l = origin-lt (n % rows k) (column k (n % rows k) (n / rows k)) (cell-row n) (taken-lt n l)
 
-  -- different cells have different addresses
+  -- different cells have different addresses: one row takes each column once, since the exchange undoes itself
   pub address-inj : (n m : ℕ) → n < cells k → m < cells k → address k n ≡ address k m → n ≡ m
-  unfolding address u
-  address-inj n m l o e = sym (div-add-mod' n (rows k)) ∙ ap₂ (λ (x y : ℕ). x * rows k + y) same-col same-row ∙ div-add-mod' m (rows k)
+  unfolding address
+  address-inj n m l o e = sym (div-add-mod' n (rows k)) ∙ ap₂ (λ (x y : ℕ). x * rows k + y) same-col (same .0) ∙ div-add-mod' m (rows k)
     where
-      un : u (n % rows k) (n / rows k) < cols k
-      un = u-lt (n % rows k) (n / rows k) (cell-row n) (col-lt n l)
-
-      um : u (m % rows k) (m / rows k) < cols k
-      um = u-lt (m % rows k) (m / rows k) (cell-row m) (col-lt m o)
-
-      same-row : n % rows k ≡ m % rows k
-      same-row =
-          row-inj (n % rows k) (m % rows k) (cell-row n) (cell-row m)
-          (sym (digits-div (rowAt k (n % rows k)) un) ∙ ap (λ (x : ℕ). x / cols k) e ∙ digits-div (rowAt k (m % rows k)) um)
-
-      same-u : u (n % rows k) (n / rows k) ≡ u (m % rows k) (m / rows k)
-      same-u = sym (digits-mod (rowAt k (n % rows k)) un) ∙ ap (λ (x : ℕ). x % cols k) e ∙ digits-mod (rowAt k (m % rows k)) um
+      same : (n % rows k ≡ m % rows k) × (column k (n % rows k) (n / rows k) ≡ column k (m % rows k) (m / rows k))
+      same = origin-inj (n % rows k) _ (m % rows k) _ (cell-row n) (cell-row m) (taken-lt n l) (taken-lt m o) e
 
       same-col : n / rows k ≡ m / rows k
       same-col =
-          u-inj (n % rows k) (n / rows k) (m / rows k) (cell-row n) (col-lt n l) (col-lt m o)
-          (same-u ∙ ap (λ (x : ℕ). u x (m / rows k)) (sym same-row))
+          sym (column-back k (n % rows k) (n / rows k))
+          ∙ ap₂ (λ (i j : ℕ). column k i j) (same .0) (same .1)
+          ∙ column-back k (m % rows k) (m / rows k)
 
   module _ (h : k ≤ 5114) where
     -- each address below K stands in L exactly once

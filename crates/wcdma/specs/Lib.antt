@@ -1,6 +1,8 @@
 pub mod Turbo
+pub mod Full
 pub mod Row
 pub mod Laid
+pub mod Touched
 pub mod Law
 pub mod Pads
 pub mod Walks

@@ -1,7 +1,7 @@
--- The WCDMA turbo interleaver, 3GPP TS 25.212 4.2.3.2.3.2 (intra-row and inter-row permutations) and 4.2.3.2.3.3 (padding pruned), as document 01
--- describes it (docs/DECISIONS.md, 11): the address of each cell of the rectangle, and the lists L and M of a block of K symbols. Rests on the shape and the set-up. These are definitions.
+-- The WCDMA turbo interleaver, 3GPP TS 25.212 4.2.3.2.3.2 (intra-row and inter-row permutations) and 4.2.3.2.3.3 (padding pruned): the address of
+-- each cell of the rectangle, and the lists L and M of a block of K symbols. Rests on the shape and the set-up. These are definitions.
 use Prim.Native.Nat.{ℕ, _+_, _*_, _-_, _/_, _%_}
-use mathlib.Core.Bool.{cond}
+use mathlib.Core.Bool.{Bool, cond, _&&_}
 use mathlib.Core.List.{List}
 use lib.Dec.{ltb, eqb}
 use lib.ListN.{getD}
@@ -22,11 +22,27 @@ entryWith p c s j = cond (eqb c (p - 1)) (s - 1) (cond (ltb j (p - 1)) s (cond (
 unfoldable pub entry : ℕ → ℕ → ℕ → ℕ → ℕ → ℕ
 entry p v c q j = entryWith p c (power p v (j * q % (p - 1))) j
 
--- the address of a cell, row i of column j: T(i)·C + U(j). Cells are counted down the columns. (The standard permutes each row by r and then the rows
--- by T, with r(T(i)) = q(i): row i after the inter-row permutation is row T(i) before it, so the number of row i here is q(i).)
+-- C = p + 1 and K = R·C
+unfoldable pub full : ℕ → Bool
+full k = eqb (cols k) (prime k + 1) && eqb k (cells k)
+
+-- 0 and p change places
+abbrev pub exchanged : ℕ → ℕ → ℕ
+exchanged p j = cond (eqb j 0) p (cond (eqb j p) 0 j)
+
+-- the column whose U a cell takes, row i of column j: j, but if C = p + 1 and K = R·C, columns 0 and p change places in row i = 0
+unfoldable pub column : ℕ → ℕ → ℕ → ℕ
+column k i j = cond (full k && eqb i 0) (exchanged (prime k) j) j
+
+-- T(i)·C + U(j)
+unfoldable pub origin : ℕ → ℕ → ℕ → ℕ
+origin k i j = rowAt k i * cols k + entry (prime k) (root (prime k)) (cols k) (qOf (prime k - 1) i) j
+
+-- the address of a cell, row i of column j: T(i)·C + U at the column that it takes. Cells are counted down the columns. (The standard permutes each
+-- row by r and then the rows by T, with r(T(i)) = q(i): row i after the inter-row permutation is row T(i) before it, so the number of row i here is
+-- q(i). It exchanges U(p) and U(0) in row R - 1 as it is before the inter-row permutation. T(0) = R - 1 and no other T(i) is: `last-row` in Full.)
 unfoldable pub address : ℕ → ℕ → ℕ
-address k cell =
-    rowAt k (cell % rows k) * cols k + entry (prime k) (root (prime k)) (cols k) (qOf (prime k - 1) (cell % rows k)) (cell / rows k)
+address k cell = origin k (cell % rows k) (column k (cell % rows k) (cell / rows k))
 
 -- the addresses of all cells but the padding, in the order of the cells
 unfoldable pub addresses : ℕ → List ℕ

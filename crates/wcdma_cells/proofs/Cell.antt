@@ -14,7 +14,8 @@ use Rattle.wcdma_shape.specs.Powers.{power, root}
 use Rattle.wcdma_setup.specs.Numbers.{qOf}
 use Rattle.wcdma_shape.specs.Orders.{rowAt}
 use Rattle.wcdma_shape.specs.Shape.{rows-pos, rows-le, prime-big, prime-small}
-use Rattle.wcdma.specs.Turbo.{entry, address}
+use Rattle.wcdma.specs.Turbo.{entry}
+use Rattle.wcdma.specs.Laid.{plain}
 use Rattle.wcdma_cells.specs.Post.{entryAt, CellIn, Goes}
 use Rattle.wcdma_cells.proofs.Place.{Place, place-address, place-column, exponent, exponent-lt, raised, entry-short}
 
@@ -36,7 +37,7 @@ module _ {y : Shape} {i j n : ℕ} {s base fall e out : List ℕ} (z : CellIn y 
   pub prime-pos : 0 < y .p
   prime-pos = omega (arith, prime-big (y .k), z .shape .prime-is)
 
-  pub address-is : (x u : ℕ) → x ≡ getD s (getD e i 0) 0 → u ≡ entryAt (y .p) x j → getD base i 0 + u ≡ address (y .k) (j * rows (y .k) + i)
+  pub address-is : (x u : ℕ) → x ≡ getD s (getD e i 0) 0 → u ≡ entryAt (y .p) x j → getD base i 0 + u ≡ plain (y .k) (j * rows (y .k) + i)
   unfolding entry
   address-is x u g f =
       let a = z .shape .prime-is in
@@ -63,18 +64,18 @@ module _ {y : Shape} {i j n : ℕ} {s base fall e out : List ℕ} (z : CellIn y 
       raised (y .k) j (qOf (prime (y .k) - 1) i) (getD e i 0) (prime (y .k) - 1 - getD fall i 0) v (exponent (y .k) (z .exponents) (z .row)) (omega arith) (rw a at f)
 
   -- the walk goes one cell on: the address is written, or passed over
-  pub goes-put : (a : ℕ) → a ≡ address (y .k) (j * rows (y .k) + i) → a < y .k → Goes (y .k) (j * rows (y .k) + i) out n (j * rows (y .k) + i + 1) (set out n a) (n + 1)
+  pub goes-put : (a : ℕ) → a ≡ plain (y .k) (j * rows (y .k) + i) → a < y .k → Goes (y .k) (j * rows (y .k) + i) out n (j * rows (y .k) + i + 1) (set out n a) (n + 1)
   goes-put a f h c₀ o w = put-as _ _ _ _ _ a w cell-inside (omega (arith, z .room, w .size)) f (lt-ltb a (y .k) h)
 
-  pub goes-skip : (a : ℕ) → a ≡ address (y .k) (j * rows (y .k) + i) → y .k ≤ a → Goes (y .k) (j * rows (y .k) + i) out n (j * rows (y .k) + i + 1) out n
-  goes-skip a f h c₀ o w = skipped _ _ _ _ _ w cell-inside (omega (arith, z .room, w .size)) (le-ltb (address (y .k) (j * rows (y .k) + i)) (y .k) (rw f at h))
+  pub goes-skip : (a : ℕ) → a ≡ plain (y .k) (j * rows (y .k) + i) → y .k ≤ a → Goes (y .k) (j * rows (y .k) + i) out n (j * rows (y .k) + i + 1) out n
+  goes-skip a f h c₀ o w = skipped _ _ _ _ _ w cell-inside (omega (arith, z .room, w .size)) (le-ltb (plain (y .k) (j * rows (y .k) + i)) (y .k) (rw f at h))
 
 -- the walk goes on from a place by one cell
 pub cell-on : {k n i j c₀ m m' : ℕ} {o out out' : List ℕ} → Place k n i j → Goes k (j * rows k + i) out m (j * rows k + i + 1) out' m'
-    → Written (address k) (inside k) (cells k) c₀ o n out m → Written (address k) (inside k) (cells k) c₀ o (n + 1) out' m'
+    → Written (plain k) (inside k) (cells k) c₀ o n out m → Written (plain k) (inside k) (cells k) c₀ o (n + 1) out' m'
 cell-on {k} {n} {i} {j} {c₀} {m} {m'} {o} {out} {out'} p g w =
-    subst (λ (x : ℕ). Written (address k) (inside k) (cells k) c₀ o (x + 1) out' m') (sym (p .at))
-    (g c₀ o (subst (λ (x : ℕ). Written (address k) (inside k) (cells k) c₀ o x out m) (p .at) w))
+    subst (λ (x : ℕ). Written (plain k) (inside k) (cells k) c₀ o (x + 1) out' m') (sym (p .at))
+    (g c₀ o (subst (λ (x : ℕ). Written (plain k) (inside k) (cells k) c₀ o x out m) (p .at) w))
 
 -- and from the first row by a column
 module _ {k r n i j : ℕ} (p : Place k n i j) (z : i ≡ 0) (er : r ≡ rows k) where
@@ -82,10 +83,10 @@ module _ {k r n i j : ℕ} (p : Place k n i j) (z : i ≡ 0) (er : r ≡ rows k)
   first = omega (arith, p .at)
 
   pub column-on : {c₀ m m' : ℕ} {o out out' : List ℕ} → Goes k (j * rows k) out m (j * rows k + rows k) out' m'
-      → Written (address k) (inside k) (cells k) c₀ o n out m → Written (address k) (inside k) (cells k) c₀ o (n + r) out' m'
+      → Written (plain k) (inside k) (cells k) c₀ o n out m → Written (plain k) (inside k) (cells k) c₀ o (n + r) out' m'
   column-on {c₀} {m} {m'} {o} {out} {out'} g w =
-      subst (λ (x : ℕ). Written (address k) (inside k) (cells k) c₀ o x out' m') (let e : j * rows k + rows k ≡ n + r = omega (arith, first, er) in e)
-      (g c₀ o (subst (λ (x : ℕ). Written (address k) (inside k) (cells k) c₀ o x out m) first w))
+      subst (λ (x : ℕ). Written (plain k) (inside k) (cells k) c₀ o x out' m') (let e : j * rows k + rows k ≡ n + r = omega (arith, first, er) in e)
+      (g c₀ o (subst (λ (x : ℕ). Written (plain k) (inside k) (cells k) c₀ o x out m) first w))
 
   pub place-on : Place k (n + r) i (j + 1)
   place-on = record { at = omega (arith, first, er, z, add-mul j 1 (rows k), one-mul (rows k)); row = omega (arith, z, rows-pos k) }

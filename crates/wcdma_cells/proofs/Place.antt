@@ -17,9 +17,9 @@ use Rattle.wcdma_setup.specs.Numbers.{qOf}
 use Rattle.wcdma_shape.specs.Orders.{rowAt}
 use Rattle.wcdma_shape.specs.Shape.{rows-pos, rows-le, prime-big}
 use Rattle.wcdma_setup.specs.Post.{shortBy}
-use Rattle.wcdma.specs.Turbo.{entry, entryWith, address}
+use Rattle.wcdma.specs.Turbo.{entry, entryWith, origin}
 use Rattle.wcdma.specs.Law.{col-lt}
-use Rattle.wcdma.specs.Laid.{nextCol, Exponents}
+use Rattle.wcdma.specs.Laid.{nextCol, Exponents, plain}
 use Rattle.wcdma_cells.specs.Post.{entryAt}
 
 module _ (k : ℕ) where
@@ -38,8 +38,8 @@ module _ (k : ℕ) where
   column-le {n} {i} {j} p = omega (arith, p .at, le-mul-of-pos-right j (rows-pos k))
 
   -- the address there
-  pub place-address : {n i j : ℕ} → Place n i j → address k n ≡ rowAt k i * cols k + entry (prime k) (root (prime k)) (cols k) (qOf (prime k - 1) i) j
-  unfolding address
+  pub place-address : {n i j : ℕ} → Place n i j → plain k n ≡ rowAt k i * cols k + entry (prime k) (root (prime k)) (cols k) (qOf (prime k - 1) i) j
+  unfolding plain origin
   place-address {n} {i} {j} p = rw (mod-is, div-is)
     where
       mod-is : n % rows k ≡ i

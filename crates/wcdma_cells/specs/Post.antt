@@ -1,4 +1,4 @@
--- What the functions of the walk over the cells are given and ensure, part by part. Rests on Turbo and Laid of crate wcdma and on Written of laws. These are definitions.
+-- What the functions of the walk over the cells are given and ensure, part by part. Rests on Laid of crate wcdma and on Written of laws. These are definitions.
 use Prim.Native.Nat.{ℕ, _+_, _*_, _-_, _<_, _≤_}
 use mathlib.Core.Bool.{cond}
 use mathlib.Core.List.{List}
@@ -9,14 +9,13 @@ use Rattle.laws.specs.Once.{inside}
 use Rattle.laws.specs.Written.{Written}
 use Rattle.laws.specs.declared.Leaf.{Leaf}
 use Rattle.laws.specs.declared.Leaf.the-variants.{Went}
-use Rattle.laws.specs.Walk.{walkList, walkCells, walkSlice}
+use Rattle.laws.specs.Walk.{Rule, walkList, walkCells, walkSlice}
 use Rattle.wcdma_shape.specs.declared.Shape.{Shape}
 use Rattle.wcdma_shape.specs.Rectangle.{rows, prime, cols, cells}
 use Rattle.wcdma_shape.specs.Powers.{power, root}
 use Rattle.wcdma_shape.specs.Post.{ShapeOf}
 use Rattle.wcdma_setup.specs.Post.{shortBy}
-use Rattle.wcdma.specs.Turbo.{address, turboRule}
-use Rattle.wcdma.specs.Laid.{Exponents, Rows}
+use Rattle.wcdma.specs.Laid.{Exponents, Rows, plain}
 
 -- S, each power less what a column's number is less, with the rows
 pub record Tables (k : ℕ) (s base fall : List ℕ) : Type 0 where
@@ -30,7 +29,7 @@ entryAt p s j = cond (ltb j (p - 1)) s (cond (eqb j (p - 1)) 0 p)
 -- a walk that stood at cell c, with n addresses in the slice, stands at another, whatever it began with
 abbrev pub Goes : ℕ → ℕ → List ℕ → ℕ → ℕ → List ℕ → ℕ → Type 0
 Goes k c out n c' out' n' =
-    (c₀ : ℕ) (o : List ℕ) → Written (address k) (inside k) (cells k) c₀ o c out n → Written (address k) (inside k) (cells k) c₀ o c' out' n'
+    (c₀ : ℕ) (o : List ℕ) → Written (plain k) (inside k) (cells k) c₀ o c out n → Written (plain k) (inside k) (cells k) c₀ o c' out' n'
 
 pub record CellIn (z : Shape) (i j n : ℕ) (s base fall e out : List ℕ) : Type 0 where
   pub shape : ShapeOf z
@@ -66,7 +65,7 @@ pub record FillIn (z : Shape) (cell i j : ℕ) (s base fall e : List ℕ) : Type
   pub row : i < rows (z .k)
   pub exponents : Exponents (z .k) i j e
 
--- the walk is done: its answer and the slice
-pub record WentOf (k cell : ℕ) (old new : List ℕ) (r : Leaf) : Type 0 where
-  pub answer : r ≡ Went (length (walkList k (turboRule k) cell (length old))) (walkCells k (turboRule k) cell (length old))
-  pub slice : new ≡ walkSlice k (turboRule k) cell old
+-- a walk along a rule is done: its answer and the slice
+pub record WentOf (k : ℕ) (rule : Rule) (cell : ℕ) (old new : List ℕ) (r : Leaf) : Type 0 where
+  pub answer : r ≡ Went (length (walkList k rule cell (length old))) (walkCells k rule cell (length old))
+  pub slice : new ≡ walkSlice k rule cell old

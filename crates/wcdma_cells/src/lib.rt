@@ -4,6 +4,7 @@ use wcdma_shape::Shape;
 use wcdma_shape::wide16;
 ghost use mathlib.Core.Path.{_≡_};
 ghost use Prim.Native.Nat.{_+_, _-_, _%_, _<_, _≤_};
+ghost use Rattle.wcdma.specs.Laid.{plainRule};
 ghost use Rattle.wcdma_cells.specs.Post.{entryAt, CellIn, CellOf, ColumnIn, ColumnOf, FillIn, WentOf};
 
 // U(j), where s is what the table has for it.
@@ -93,7 +94,7 @@ pub fn fill(
     out: &mut [u16],
 ) -> Leaf
     requires { ⌜ FillIn shape cell row column (now s) (now base) (now fall) (now e) ⌝ }
-    ensures { λ w. ⌜ WentOf (shape .k) cell (now (out .entry)) (now (out .exit)) w ⌝ }
+    ensures { λ w. ⌜ WentOf (shape .k) (plainRule (shape .k)) cell (now (out .entry)) (now (out .exit)) w ⌝ }
 {
     let r = shape.r;
     let total = r * shape.c;

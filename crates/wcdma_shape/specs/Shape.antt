@@ -3,13 +3,15 @@ use Prim.Native.Nat.{ℕ, _+_, _*_, _-_, _≤_, _<_}
 use mathlib.Core.Bool.{Bool, true, false, cond, _&&_, _||_, or-true, or-false}
 use mathlib.Core.Logic.{⊎-elim}
 use mathlib.Core.List.{List, [], _∷_, List·Memᴰ, List·Memᴰ·head, List·Memᴰ·tail, List·Memᴰ·cases-cons, List·Memᴰ·not-nil}
-use mathlib.Core.Path.{_≡_, refl, sym, _∙_}
+use mathlib.Core.Path.{_≡_, refl, sym, ap, ap₂, _∙_}
 use native.Mathlib.Nat.{mul-le-mul}
 use native.Mathlib.Omega.{arith}
 use lib.Dec.{ltb, leb}
 use borrow.Author.Tests.{leb-true, leb-false, ltb-true, le-leb, lt-leb}
 use Rattle.laws.specs.Members.{both, every, at-each}
 use Rattle.laws.specs.Run.{mem-at}
+use Rattle.wcdma_shape.specs.declared.Shape.{Shape}
+use Rattle.wcdma_shape.specs.Post.{ShapeOf}
 use Rattle.wcdma_shape.specs.Rectangle.{within, rows, primes, firstPrime, prime, colsOf, cols, cells}
 
 -- what holds of either choice holds of the one that is made
@@ -114,6 +116,11 @@ product-small h l = mul-le-mul h l
 pub cells-le : (k : ℕ) → cells k ≤ 5160
 unfolding cells
 cells-le k = product-small (rows-le k) (let a = cols-high k in let b = prime-small k in let h : cols k ≤ 258 = omega arith in h)
+
+-- R·C of a shape
+pub shape-total : (z : Shape) → ShapeOf z → {k : ℕ} → z .k ≡ k → z .r * z .c ≡ cells k
+unfolding cells
+shape-total z s e = ap₂ (λ (r c : ℕ). r * c) (s .rows-is) (s .cols-is) ∙ ap cells e
 
 -- the cells suffice
 

@@ -9,6 +9,7 @@ use lib.Dec.{eqb}
 use lib.ListN.{getD, length, take, drop}
 use lib.Seq.{take-at}
 use Rattle.laws.specs.declared.Leaf.{Leaf}
+use Rattle.laws.specs.declared.Leaf.the-variants.{Went}
 use Rattle.laws.specs.declared.Single.the-variants.{Barred}
 use Rattle.laws.specs.Walk.{walkSlice, LeafOf, SingleOf, table-is}
 use Rattle.laws.specs.Leaves.{WentWell, leaf-went, single-fails}
@@ -23,8 +24,9 @@ use Rattle.wcdma_setup.specs.Post.{NumbersOf, shortBy}
 use Rattle.wcdma.specs.Turbo.{addresses, turboL, turboRule}
 use Rattle.wcdma.specs.Law.{as-many, turbo-lawful}
 use Rattle.wcdma.specs.Walks.{walk-whole}
-use Rattle.wcdma.specs.Laid.{Rows, Exponents}
+use Rattle.wcdma.specs.Laid.{Rows, Exponents, plainRule}
 use Rattle.wcdma_cells.specs.Post.{FillIn, WentOf}
+use Rattle.wcdma_full.specs.Exchange.{exchangeIn, alike}
 use Rattle.wcdma_walk.specs.Post.{SearchOf, ByIn}
 
 pub short-le : (c p x : ℕ) → x ≡ shortBy c p → x ≤ 1
@@ -41,11 +43,6 @@ searched z s q found n = record {
   says = ap not (n .all ∙ ap₂ (λ (p r : ℕ). allFound (p - 1) 1 (r - 1)) (s .prime-is) (s .rows-is));
   numbers = λ e x l. n .each e x (omega (arith, s .rows-is)) ∙ ap (λ (p : ℕ). qOf (p - 1) x) (s .prime-is);
 }
-
--- R·C of a shape
-pub shape-total : (z : Shape) → ShapeOf z → {k : ℕ} → z .k ≡ k → z .r * z .c ≡ cells k
-unfolding cells
-shape-total z s e = ap₂ (λ (r c : ℕ). r * c) (s .rows-is) (s .cols-is) ∙ ap cells e
 
 -- the powers of a root are never 0
 pub power-some : (k x : ℕ) {p v : ℕ} → p ≡ prime k → v ≡ root (prime k) → 0 < power p v x
@@ -77,11 +74,18 @@ module _ {z : Shape} {q : List ℕ} {cell : ℕ} (b : ByIn z q cell) where
         exponents = w .1;
       }
 
+-- the slice is filled, and then the exchange is made
+pub exchange-went : (k cell : ℕ) (old : List ℕ) {filled new : List ℕ} {r : Leaf} → cell ≤ cells k → WentOf k (plainRule k) cell old filled r
+    → new ≡ exchangeIn k cell filled → WentOf k (turboRule k) cell old new r
+exchange-went k cell old h w e =
+    let a = alike k cell h old in
+    record { answer = w .answer ∙ ap₂ Went (a .written) (a .passed); slice = e ∙ ap (exchangeIn k cell) (w .slice) ∙ a .slice }
+
 -- the answer of a walk once the search has ended
-pub went-says : (k cell : ℕ) (old : List ℕ) {y : ℕ} {new : List ℕ} {r : Leaf} → y ≡ k → searchFails k ≡ false → cell ≤ cells k → WentOf y cell old new r
+pub went-says : (k cell : ℕ) (old : List ℕ) {y : ℕ} {new : List ℕ} {r : Leaf} → y ≡ k → searchFails k ≡ false → cell ≤ cells k → WentOf y (turboRule y) cell old new r
     → LeafOf k (turboRule k) cell old new r
 went-says k cell old {y} {new} {r} e f h w =
-    let z : WentOf k cell old new r = rw e at w in
+    let z : WentOf k (turboRule k) cell old new r = rw e at w in
     subst (λ (x : Leaf). LeafOf k (turboRule k) cell old new x) (sym (z .answer)) (leaf-went f h refl refl (z .slice))
 
 -- a table that a walk from cell 0 filled is L

@@ -11,10 +11,10 @@ ghost use Rattle.wcdma.specs.Turbo.{turboL, turboM, turboRule};
 ghost use Rattle.wcdma_cells.specs.Post.{WentOf};
 ghost use Rattle.wcdma_walk.specs.Post.{SearchIn, SearchOf, ByIn};
 
-// The walk once the numbers q are found: S and the rows are laid out, and the slice is filled.
+// The walk once the numbers q are found: S and the rows are laid out, the slice is filled, and in a full rectangle the two addresses are exchanged.
 fn walk_by(shape: Shape, q: &[u32; 20], cell: usize, out: &mut [u16]) -> Leaf
     requires { ⌜ ByIn shape (now q) cell ⌝ }
-    ensures { λ w. ⌜ WentOf (shape .k) cell (now (out .entry)) (now (out .exit)) w ⌝ }
+    ensures { λ w. ⌜ WentOf (shape .k) (turboRule (shape .k)) cell (now (out .entry)) (now (out .exit)) w ⌝ }
 {
     let r = shape.r;
     let p = shape.p;
@@ -27,7 +27,9 @@ fn walk_by(shape: Shape, q: &[u32; 20], cell: usize, out: &mut [u16]) -> Leaf
     let mut fall = [0usize; 20];
     let mut e = [0usize; 20];
     wcdma_rows::lay_out(shape, q, row, column as u32, &mut base, &mut fall, &mut e);
-    wcdma_cells::fill(shape, cell, row, column, &s, &base, &fall, &mut e, out)
+    let went = wcdma_cells::fill(shape, cell, row, column, &s, &base, &fall, &mut e, out);
+    wcdma_full::exchange(shape, cell, out);
+    went
 }
 
 // The search for q of a shape.

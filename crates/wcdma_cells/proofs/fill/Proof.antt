@@ -15,13 +15,12 @@ use Rattle.wcdma_shape.specs.Rectangle.{cells, cols}
 use Rattle.wcdma_shape.specs.Shape.{cells-le, cols-high, prime-small, product-small, rows-le, rows-pos}
 use Rattle.wcdma_cells.proofs.Cell.{cell-on, column-fits, column-on, place-on}
 use Rattle.wcdma_cells.proofs.Place.{Place, column-le, exponents-to, exponents-top, place-column, place-down, place-over}
-use Rattle.wcdma.specs.Laid.{Exponents}
-use Rattle.wcdma.specs.Turbo.{address}
+use Rattle.wcdma.specs.Laid.{Exponents, plain}
 use Rattle.wcdma_cells.proofs.fill.Statement.{statement}
 use Rattle.wcdma_cells.proofs.fill.Tie as tie
 
 abbrev Inv-loop : tie.InvT-loop
-Inv-loop shape cell row column s base fall e₀ out₀ r total i₀ j₀ here₀ n₀ e out i j here n = Place (shape .k) here i j × Exponents (shape .k) i j e × Written (address (shape .k)) (inside (shape .k)) (cells (shape .k)) cell out₀ here out n
+Inv-loop shape cell row column s base fall e₀ out₀ r total i₀ j₀ here₀ n₀ e out i j here n = Place (shape .k) here i j × Exponents (shape .k) i j e × Written (plain (shape .k)) (inside (shape .k)) (cells (shape .k)) cell out₀ here out n
 
 abbrev μ-loop : tie.MeasureT-loop
 μ-loop shape cell row column s base fall e₀ out₀ r total i₀ j₀ here₀ n₀ e out i j here n = cells (shape .k) - here

@@ -8,9 +8,8 @@ use Rattle.wcdma_shape.specs.Rectangle.{rows}
 use Rattle.wcdma_shape.specs.Shape.{cells-le}
 use Rattle.wcdma_cells.proofs.Cell.{address-is, exponent-in, cell-inside, exponent-small, goes-put, goes-skip, prime-pos, raised-is, row-small}
 use Rattle.wcdma_cells.proofs.Place.{exponents-down}
-use Rattle.wcdma.specs.Law.{address-lt}
-use Rattle.wcdma.specs.Laid.{Exponents}
-use Rattle.wcdma.specs.Turbo.{address}
+use Rattle.wcdma.specs.Law.{plain-lt}
+use Rattle.wcdma.specs.Laid.{Exponents, plain}
 use Rattle.wcdma_cells.proofs.one_cell.Statement.{statement}
 use Rattle.wcdma_cells.proofs.one_cell.Tie as tie
 
@@ -21,7 +20,7 @@ start c = c .before .before .before .before .before
 abbrev cell : tie.After-entry-at → ℕ
 cell c = start c .args .j * rows (start c .args .shape .k) + start c .args .i
 
-here-is : (c : tie.After-entry-at) → getD (start c .args .base .now) (start c .args .i) 0 + c .entry-at .result ≡ address (start c .args .shape .k) (cell c)
+here-is : (c : tie.After-entry-at) → getD (start c .args .base .now) (start c .args .i) 0 + c .entry-at .result ≡ plain (start c .args .shape .k) (cell c)
 here-is c = address-is (start c .pre) (c .before .wide16 .result) (c .entry-at .result) (c .before .wide16 .ensures) (c .entry-at .ensures)
 
 next-exponents :
@@ -57,7 +56,7 @@ element-copy-out-a : tie.Need-element-copy-out-a
 element-copy-out-a c = row-small (c .before .before .before .before .before .pre)
 
 add-a : tie.Need-add-a
-add-a c = let z = start (c .before) .pre in omega (arith, here-is (c .before), address-lt (start (c .before) .args .shape .k) (cell (c .before)) (cell-inside z), cells-le (start (c .before) .args .shape .k))
+add-a c = let z = start (c .before) .pre in omega (arith, here-is (c .before), plain-lt (start (c .before) .args .shape .k) (cell (c .before)) (cell-inside z), cells-le (start (c .before) .args .shape .k))
 
 mul-next-exponent : tie.Need-mul-next-exponent
 mul-next-exponent c = omega (arith, row-small (c .before .before .before .before .before .before .pre))

@@ -8,8 +8,8 @@ use native.Mathlib.Omega.{arith}
 use Rattle.laws.specs.Leaves.{leaf-fails, leaf-past}
 use Rattle.wcdma_shape.specs.Rectangle.{cells}
 use Rattle.wcdma_setup.specs.Numbers.{searchFails}
-use Rattle.wcdma_shape.specs.Shape.{cells-le}
-use Rattle.wcdma_walk.proofs.Setup.{shape-total, went-says}
+use Rattle.wcdma_shape.specs.Shape.{cells-le, shape-total}
+use Rattle.wcdma_walk.proofs.Setup.{went-says}
 use Rattle.wcdma_walk.proofs.walk.Statement.{statement}
 use Rattle.wcdma_walk.proofs.walk.Tie as tie
 

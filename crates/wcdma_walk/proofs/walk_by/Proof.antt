@@ -1,11 +1,11 @@
--- `walk_by` sets up and fills.
+-- `walk_by` sets up, fills and exchanges.
 use borrow.Author.Needs.{needs}
 use mathlib.Core.Path.{_∙_, ap, refl}
 use native.Mathlib.Omega.{arith}
 use Rattle.wcdma_shape.specs.Powers.{isTableRoot}
 use Rattle.wcdma_shape.specs.Roots.{prime-root}
 use Rattle.wcdma_shape.specs.Shape.{prime-big, prime-small}
-use Rattle.wcdma_walk.proofs.Setup.{column-small, fill-in, power-some, rows-some, short-le}
+use Rattle.wcdma_walk.proofs.Setup.{column-small, exchange-went, fill-in, power-some, rows-some, short-le}
 use Rattle.wcdma_walk.proofs.walk_by.Statement.{statement}
 use Rattle.wcdma_walk.proofs.walk_by.Tie as tie
 
@@ -46,11 +46,18 @@ lay-out-requires c κs =
 fill-requires : tie.Need-fill-requires
 fill-requires c κs = fill-in (c .before .before .before .before .before .before .before .before .before .before .before .before .before .pre) _ _ _ _ (c .before .before .before .before .before .before .before .before .before .before .before .short-by .result) (c .before .before .before .before .before .before .before .before .before .before .before .short-by .ensures) (c .before .before .before .before .before .before .before .before .before .powers .ensures) (c .before .before .before .before .before .lay-out .ensures)
 
+exchange-requires : tie.Need-exchange-requires
+exchange-requires c κs = search needs
+
 same-length : tie.Need-same-length
 same-length c = search needs
 
 returns : tie.Need-returns
-returns c = search needs
+returns c =
+    let e = c .before .before in
+    let f = e .before .before .before .before in
+    let s = f .before .before .before .before .before .before .before .before .before .before .before .before .before .before in
+    exchange-went (s .args .shape .k) (s .args .cell) _ (s .pre .within) (f .fill .ensures) (e .exchange .ensures)
 
 pub walk-by-spec : {M : Type 1} → statement M
 walk-by-spec =
@@ -64,5 +71,6 @@ walk-by-spec =
     cast-lay-out
     lay-out-requires
     fill-requires
+    exchange-requires
     same-length
     returns)
