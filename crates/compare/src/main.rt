@@ -19,13 +19,48 @@ use second::Whole;
 use second::num::move_on;
 use sets::Set;
 
-// The whole list of a set by the second computation; one place off for a list that is wrong on purpose.
-fn list_of(way: Way, set: Set, off: bool, list: &mut [u16]) -> Whole {
+// How a list is made: right; or wrong on purpose, one place off, or without the exchange at full rectangles.
+enum Made {
+    Right,
+    Off,
+    Unexchanged,
+}
+
+fn one_off(way: Way, set: Set, list: &mut [u16]) -> Whole {
     let w = second::list_of(way, set, list);
-    if off {
-        move_on(list);
-    }
+    move_on(list);
     w
+}
+
+// The whole list of a set by the second computation.
+fn list_of(way: Way, set: Set, made: Made, list: &mut [u16]) -> Whole {
+    match made {
+        Made::Right => second::list_of(way, set, list),
+        Made::Off => one_off(way, set, list),
+        Made::Unexchanged => second::unexchanged(set, list),
+    }
+}
+
+// What is counted of a set: without the exchange, the sets that it touches and no other.
+fn counted(made: Made, c: Count) -> Count {
+    match made {
+        Made::Unexchanged => {
+            if c.differences == 0 {
+                return Count::none();
+            }
+            c
+        }
+        _ => c,
+    }
+}
+
+// A walk against a list, in slices of a size, or whole for size 0.
+fn hold(way: Way, w: Whole, size: usize, list: &[u16], slice: &mut [u16]) -> Count {
+    if size == 0 {
+        let set = w.set;
+        return slices::compare(way, w, set.n as usize, list, slice);
+    }
+    slices::compare(way, w, size, list, slice)
 }
 
 // One set, in slices of a size, or whole for size 0. A refused set is passed over.
@@ -33,26 +68,30 @@ fn walk_one(
     way: Way,
     set: Set,
     size: usize,
-    off: bool,
+    made: Made,
     list: &mut [u16],
     slice: &mut [u16],
 ) -> Count {
     if !accepted(set) {
         return Count::none();
     }
-    let w = list_of(way, set, off, list);
-    if size == 0 {
-        return slices::compare(way, w, set.n as usize, list, slice);
-    }
-    slices::compare(way, w, size, list, slice)
+    let w = list_of(way, set, made, list);
+    counted(made, hold(way, w, size, list, slice))
 }
 
-fn walk_each(way: Way, choice: u32, size: usize, list: &mut [u16], slice: &mut [u16]) -> Count {
+fn walk_each(
+    way: Way,
+    choice: u32,
+    size: usize,
+    made: Made,
+    list: &mut [u16],
+    slice: &mut [u16],
+) -> Count {
     let n = sets_in(choice);
     let mut c = Count::none();
     let mut i = 0;
     while i < n {
-        c = c.with(walk_one(way, set_at(choice, i), size, false, list, slice));
+        c = c.with(walk_one(way, set_at(choice, i), size, made, list, slice));
         i += 1;
     }
     c
@@ -61,15 +100,15 @@ fn walk_each(way: Way, choice: u32, size: usize, list: &mut [u16], slice: &mut [
 fn walks_of(way: Way, title: &[u8], choice: u32, size: usize) -> u64 {
     let mut list = [0u16; 12000];
     let mut slice = [0u16; 6144];
-    let c = walk_each(way, choice, size, &mut list, &mut slice);
+    let c = walk_each(way, choice, size, Made::Right, &mut list, &mut slice);
     count::walks_line(title, c);
     c.differences
 }
 
 // Two blocks for each set, of low bytes and of high.
-fn blocks_one(i: u32, off: bool, list: &mut [u16]) -> Count {
+fn blocks_one(i: u32, made: Made, list: &mut [u16]) -> Count {
     let set = dozen_at(i / 2);
-    list_of(Way::Interleaver, set, off, list);
+    list_of(Way::Interleaver, set, made, list);
     let mut src = [0u8; 6144];
     let mut dst = [0u8; 6144];
     let mut again = [0u8; 6144];
@@ -80,7 +119,7 @@ fn blocks_each(list: &mut [u16]) -> Count {
     let mut c = Count::none();
     let mut i = 0;
     while i < 24 {
-        c = c.with(blocks_one(i, false, list));
+        c = c.with(blocks_one(i, Made::Right, list));
         i += 1;
     }
     c
@@ -93,9 +132,9 @@ fn blocks_of(title: &[u8]) -> u64 {
     c.differences
 }
 
-fn singles_one(i: u32, off: bool, list: &mut [u16]) -> Count {
+fn singles_one(i: u32, made: Made, list: &mut [u16]) -> Count {
     let set = dozen_at(i);
-    list_of(Way::Interleaver, set, off, list);
+    list_of(Way::Interleaver, set, made, list);
     moves::singles(set, list)
 }
 
@@ -103,7 +142,7 @@ fn singles_each(list: &mut [u16]) -> Count {
     let mut c = Count::none();
     let mut i = 0;
     while i < 12 {
-        c = c.with(singles_one(i, false, list));
+        c = c.with(singles_one(i, Made::Right, list));
         i += 1;
     }
     c
@@ -162,7 +201,7 @@ fn wrong_walk() {
         Way::Interleaver,
         turbo_set(40),
         0,
-        true,
+        Made::Off,
         &mut list,
         &mut slice,
     );
@@ -171,14 +210,32 @@ fn wrong_walk() {
 
 fn wrong_block() {
     let mut list = [0u16; 12000];
-    let c = blocks_one(0, true, &mut list);
+    let c = blocks_one(0, Made::Off, &mut list);
     count::short_line(b"wrong on purpose, a block of K 40", c);
 }
 
 fn wrong_singles() {
     let mut list = [0u16; 12000];
-    let c = singles_one(0, true, &mut list);
+    let c = singles_one(0, Made::Off, &mut list);
     count::short_line(b"wrong on purpose, single addresses of K 40", c);
+}
+
+// Every K against its list without the exchange: the sizes that it touches, each at two addresses. In no total either.
+fn wrong_exchange() {
+    let mut list = [0u16; 12000];
+    let mut slice = [0u16; 6144];
+    let c = walk_each(
+        Way::Interleaver,
+        1,
+        0,
+        Made::Unexchanged,
+        &mut list,
+        &mut slice,
+    );
+    count::walks_line(
+        b"wrong on purpose, L of profile 5 without the exchange, the sizes that it touches",
+        c,
+    );
 }
 
 fn main() {
@@ -193,5 +250,6 @@ fn main() {
     wrong_walk();
     wrong_block();
     wrong_singles();
+    wrong_exchange();
     count::last_line(sum(sum(carriers, turbos), dozen));
 }

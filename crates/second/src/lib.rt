@@ -1,4 +1,4 @@
-// The second computation: whole lists from document 01's formulas, with a division at each address. It knows nothing of the walk, and promises
+// The second computation: whole lists from document 01's formulas and, for profile 5, the standard's exchange, with a division at each address. It knows nothing of the walk, and promises
 // nothing: a program holds the proved lists against it.
 pub mod num; // num.rt: arithmetic that never fails
 mod primes; // primes.rt: primes, the least primitive root, the next q
@@ -90,10 +90,21 @@ fn keep(k: usize, a: usize, cell: usize, kept: usize, list: &mut [u16]) -> usize
     plus(kept, 1)
 }
 
+// The grid of a block, with the exchange or, for a list that is wrong on purpose, without it.
+fn grid_of(k: usize, exchange: bool, table: &mut [u16]) -> turbo::Grid {
+    let g = turbo::plan(k, table);
+    turbo::Grid {
+        r: g.r,
+        p: g.p,
+        c: g.c,
+        exchanges: g.exchanges & exchange,
+    }
+}
+
 // L of a set of profile 5, cell by cell.
-fn turbo_cells(set: Set, table: &mut [u16], list: &mut [u16]) -> Whole {
+fn turbo_cells(set: Set, exchange: bool, table: &mut [u16], list: &mut [u16]) -> Whole {
     let k = set.n as usize;
-    let grid = turbo::plan(k, table);
+    let grid = grid_of(k, exchange, table);
     let cells = times(grid.r, grid.c);
     let mut kept = 0;
     let mut cell = 0;
@@ -109,15 +120,20 @@ fn turbo_cells(set: Set, table: &mut [u16], list: &mut [u16]) -> Whole {
     }
 }
 
-fn turbo_list(set: Set, list: &mut [u16]) -> Whole {
+fn turbo_list(set: Set, exchange: bool, list: &mut [u16]) -> Whole {
     let mut table = [0u16; 400];
-    turbo_cells(set, &mut table, list)
+    turbo_cells(set, exchange, &mut table, list)
+}
+
+// The list of an accepted set of profile 5 with no exchange at full rectangles: wrong on purpose.
+pub fn unexchanged(set: Set, list: &mut [u16]) -> Whole {
+    turbo_list(set, false, list)
 }
 
 // The whole list of an accepted set.
 pub fn list_of(way: Way, set: Set, list: &mut [u16]) -> Whole {
     if set.profile == 5 {
-        return turbo_list(set, list);
+        return turbo_list(set, true, list);
     }
     carrier_list(way, set, list)
 }

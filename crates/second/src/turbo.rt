@@ -1,4 +1,4 @@
-// The grid of profile 5 from document 01: R, p, C, S, q and T, and a cell's address.
+// The grid of profile 5 from 3GPP TS 25.212: R, p, C, S, q and T, and a cell's address.
 use crate::num::at;
 use crate::num::minus;
 use crate::num::over;
@@ -62,10 +62,12 @@ const OTHER: [u16; 20] = [
     11,
 ];
 
+// R, p and C, and whether U(p) and U(0) of row R - 1 change places.
 pub struct Grid {
     pub r: usize,
     pub p: usize,
     pub c: usize,
+    pub exchanges: bool,
 }
 
 fn rows(k: usize) -> usize {
@@ -172,6 +174,14 @@ fn row_order(k: usize, r: usize, table: &mut [u16]) {
     }
 }
 
+// If C = p + 1 and K = R·C, the standard exchanges U(p) with U(0) of row R - 1.
+fn exchanges(k: usize, r: usize, p: usize, c: usize) -> bool {
+    if c == plus(p, 1) {
+        return k == times(r, c);
+    }
+    false
+}
+
 // R, p and C, with S, q and T in the table.
 pub(super) fn plan(k: usize, table: &mut [u16]) -> Grid {
     let r = rows(k);
@@ -180,7 +190,12 @@ pub(super) fn plan(k: usize, table: &mut [u16]) -> Grid {
     powers(p, table);
     steps(r, p, table);
     row_order(k, r, table);
-    Grid { r, p, c }
+    Grid {
+        r,
+        p,
+        c,
+        exchanges: exchanges(k, r, p, c),
+    }
 }
 
 // u of row i and column j.
@@ -199,9 +214,25 @@ fn across(g: Grid, table: &[u16], i: usize, j: usize) -> usize {
     g.p
 }
 
+// The column whose U stands at column j of a row, as the rows are before their order T.
+fn taken(g: Grid, row: usize, j: usize) -> usize {
+    if g.exchanges {
+        if plus(row, 1) == g.r {
+            if j == 0 {
+                return g.p;
+            }
+            if j == g.p {
+                return 0;
+            }
+        }
+    }
+    j
+}
+
 // T(i)·C + u of a cell, the cells with j outer and i inner.
 pub(super) fn address(g: Grid, table: &[u16], cell: usize) -> usize {
     let i = rest(cell, g.r);
     let j = over(cell, g.r);
-    plus(times(at(table, plus(T, i)), g.c), across(g, table, i, j))
+    let row = at(table, plus(T, i));
+    plus(times(row, g.c), across(g, table, i, taken(g, row, j)))
 }

@@ -19,7 +19,7 @@ use Rattle.wcdma_shape.specs.Rectangle.{rows, primes, firstPrime, prime, colsOf
 use Rattle.wcdma_shape.specs.Powers.{power, firstOne, generates, rootFrom, root}
 use Rattle.wcdma_setup.specs.Numbers.{noDivisor, isPrime, passes, nextIn, nextQ, qOf}
 use Rattle.wcdma_shape.specs.Orders.{rowOrders, whichOrder, orderOf, rowAt}
-use Rattle.wcdma.specs.Turbo.{entry, address, addresses, turboM, padCells}
+use Rattle.wcdma.specs.Turbo.{entry, full, column, origin, address, addresses, turboM, padCells}
 use Rattle.wcdma.specs.Pads.{cells-are}
 use Rattle.families.specs.Rules.{ruleOf}
 use Rattle.families.specs.Rules as rules
@@ -87,7 +87,7 @@ counted k h = let e : padCells k ≡ cells k - k = omega (arith, cells-are k h) 
 
 -- the table, in 01's order
 unfoldable pub stars : List Row
-unfolding answer padCells padding listL ruleOf familyOf keep rowsOf groupOf firstStep secondStep carrierM backStep lastStep carrierL rows primes firstPrime prime colsOf cols cells power firstOne generates rootFrom root gcdIn gcd noDivisor isPrime passes nextIn nextQ qOf rowOrders whichOrder orderOf rowAt entry address
+unfolding answer padCells padding listL ruleOf familyOf keep rowsOf groupOf firstStep secondStep carrierM backStep lastStep carrierL rows primes firstPrime prime colsOf cols cells power firstOne generates rootFrom root gcdIn gcd noDivisor isPrime passes nextIn nextQ qOf rowOrders whichOrder orderOf rowAt entry full column origin address
 stars =
     -- Profile 3, bits 4, N 192: M of 0, 1, 16, 17, 191
     row M (wlan 4 192) 0 (0 ∷ []) refl
@@ -111,8 +111,14 @@ stars =
     ∷ row R (turbo 40) 0 (5 ∷ []) refl
     ∷ row p (turbo 40) 0 (7 ∷ []) refl
     ∷ row C (turbo 40) 0 (8 ∷ []) refl
-    ∷ row begins (turbo 40) 10 (33 ∷ 25 ∷ 17 ∷ 9 ∷ 1 ∷ 35 ∷ 27 ∷ 21 ∷ 11 ∷ 5 ∷ []) refl
-    ∷ row ends (turbo 40) 5 (39 ∷ 31 ∷ 23 ∷ 15 ∷ 7 ∷ []) refl
+    ∷ row begins (turbo 40) 10 (39 ∷ 25 ∷ 17 ∷ 9 ∷ 1 ∷ 35 ∷ 27 ∷ 21 ∷ 11 ∷ 5 ∷ []) refl
+    ∷ row ends (turbo 40) 5 (33 ∷ 31 ∷ 23 ∷ 15 ∷ 7 ∷ []) refl
+    -- K 200, full like K 40: R, p, C; L begins .. and ends ..
+    ∷ row R (turbo 200) 0 (10 ∷ []) refl
+    ∷ row p (turbo 200) 0 (19 ∷ []) refl
+    ∷ row C (turbo 200) 0 (20 ∷ []) refl
+    ∷ row begins (turbo 200) 10 (199 ∷ 161 ∷ 141 ∷ 121 ∷ 101 ∷ 81 ∷ 61 ∷ 41 ∷ 21 ∷ 1 ∷ []) refl
+    ∷ row ends (turbo 200) 10 (181 ∷ 179 ∷ 159 ∷ 139 ∷ 119 ∷ 99 ∷ 79 ∷ 59 ∷ 39 ∷ 19 ∷ []) refl
     -- K 41: C, padding cells; ten cells give ..; the sixth cell, cell 5, is padding
     ∷ row C (turbo 41) 0 (10 ∷ []) refl
     ∷ row padded (turbo 41) 0 (9 ∷ []) refl
@@ -137,7 +143,7 @@ stars =
 
 -- cases of ours, in the same form: their numbers were computed from 01's text by another program than the definitions
 unfoldable pub ours : List Row
-unfolding answer padCells padding listL ruleOf familyOf keep rowsOf groupOf firstStep secondStep carrierM backStep lastStep carrierL rows primes firstPrime prime colsOf cols cells power firstOne generates rootFrom root gcdIn gcd noDivisor isPrime passes nextIn nextQ qOf rowOrders whichOrder orderOf rowAt entry address addresses turboM position
+unfolding answer padCells padding listL ruleOf familyOf keep rowsOf groupOf firstStep secondStep carrierM backStep lastStep carrierL rows primes firstPrime prime colsOf cols cells power firstOne generates rootFrom root gcdIn gcd noDivisor isPrime passes nextIn nextQ qOf rowOrders whichOrder orderOf rowAt entry full column origin address addresses turboM position
 ours =
     -- Profile 1, d 12: bits 6, N 1,152, where s is 3; bits 4, N 768, where s is 2
     row M (ofdm 6 1152) 1 (98 ∷ []) refl
@@ -161,6 +167,10 @@ ours =
     -- K 201: the second row order of twenty; C = p. The first twenty addresses, in 22 cells
     ∷ row p (turbo 201) 0 (11 ∷ []) refl
     ∷ row give (turbo 201) 22 (100 ∷ 155 ∷ 45 ∷ 1 ∷ 23 ∷ 56 ∷ 78 ∷ 133 ∷ 199 ∷ 111 ∷ 89 ∷ 144 ∷ 188 ∷ 34 ∷ 12 ∷ 177 ∷ 67 ∷ 166 ∷ 122 ∷ 106 ∷ []) refl
+    -- K 199, which has the rectangle of K 200 and does not fill it
+    ∷ row C (turbo 199) 0 (20 ∷ []) refl
+    ∷ row begins (turbo 199) 10 (181 ∷ 161 ∷ 141 ∷ 121 ∷ 101 ∷ 81 ∷ 61 ∷ 41 ∷ 21 ∷ 1 ∷ []) refl
+    ∷ row ends (turbo 199) 9 (179 ∷ 159 ∷ 139 ∷ 119 ∷ 99 ∷ 79 ∷ 59 ∷ 39 ∷ 19 ∷ []) refl
     -- K 530, the last of R 10, and 531, the first of R 20 above it
     ∷ row R (turbo 530) 0 (10 ∷ []) refl
     ∷ row p (turbo 530) 0 (53 ∷ []) refl

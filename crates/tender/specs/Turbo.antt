@@ -1,13 +1,17 @@
--- Condition 2 for profile 5, the WCDMA turbo interleaver of 3GPP TS 25.212 as document 01 describes it (without the exchange at full
--- rectangles: docs/DECISIONS.md): for every size K from 40 to 5,114 each address from 0 to K - 1 stands in L exactly once, and the padding is
--- counted.
-use Prim.Native.Nat.{ℕ, _+_, _≤_, _<_}
+-- Condition 2 for profile 5, the WCDMA turbo interleaver of 3GPP TS 25.212: for every size K from 40 to 5,114 each address from 0 to K - 1 stands in L
+-- exactly once, and the padding is counted. Where C = p + 1 and K = R·C, the entries U of the row with T(i) = R - 1 change places at columns 0 and p.
+use Prim.Native.Nat.{ℕ, _+_, _*_, _-_, _≤_, _<_}
 use mathlib.Core.Path.{_≡_}
+use lib.ListN.{length}
 use Rattle.laws.specs.Perm.{Perm}
 use Rattle.laws.specs.Once.{count}
-use Rattle.wcdma_shape.specs.Rectangle.{cells}
-use Rattle.wcdma.specs.Turbo.{addresses, turboL, turboM, padCells}
+use Rattle.wcdma_shape.specs.Rectangle.{rows, prime, cells}
+use Rattle.wcdma_shape.specs.Orders.{rowAt}
+use Rattle.wcdma.specs.Turbo.{exchanged, origin, address, addresses, turboL, turboM, padCells}
+use Rattle.wcdma.specs.Full as whole
 use Rattle.wcdma.specs.Law as law
+use Rattle.wcdma.specs.Touched.{Full, fullSizes}
+use Rattle.wcdma.specs.Touched as touched
 use Rattle.wcdma.specs.Pads as pads
 
 module _ (k : ℕ) (low : 40 ≤ k) (high : k ≤ 5114) where
@@ -26,3 +30,21 @@ module _ (k : ℕ) (low : 40 ≤ k) (high : k ≤ 5114) where
 -- and 239 is reached, at K = 2,281
 pub padding-reached : padCells 2281 ≡ 239
 padding-reached = pads.padding-most
+
+-- the address of row i of column j
+module _ (k i j : ℕ) (row : i < rows k) where
+  -- where C = p + 1 and K = R·C, the row with T(i) = R - 1 has U(p) at j = 0, U(0) at j = p, and U(j) at every other j
+  pub exchange-made : Full k → rowAt k i ≡ rows k - 1 → address k (j * rows k + i) ≡ origin k i (exchanged (prime k) j)
+  exchange-made = touched.exchange-made k i j row
+
+  -- in any other row, and in any other rectangle, U(j) stands at j
+  pub exchange-left : (Full k → rowAt k i ≡ rows k - 1 → ⊥) → address k (j * rows k + i) ≡ origin k i j
+  exchange-left = touched.exchange-left k i j row
+
+-- that row is row 0, in every row order, and no other is
+pub exchange-row : (k : ℕ) → (rowAt k 0 ≡ rows k - 1) × ((i : ℕ) → i < rows k → rowAt k i ≡ rows k - 1 → i ≡ 0)
+exchange-row k = (whole.first-row k, law.last-row k)
+
+-- 59 of the sizes have such a rectangle
+pub exchange-sizes : length fullSizes ≡ 59
+exchange-sizes = touched.sizes-touched

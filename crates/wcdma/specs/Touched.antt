@@ -1,9 +1,9 @@
--- What the exchange touches: two cells of each of the 59 sizes whose rectangle is full, cell 0 and the first of column p, and no other cell. `plain` is a
--- cell's address without it. Rests on Full; one computed test over the sizes.
+-- What the exchange touches: in the row with T(i) = R - 1 of a full rectangle, U of columns 0 and p; so two cells of each of 59 sizes, cell 0 and the
+-- first cell of column p. `plain` is a cell's address without it. Rests on Full and Law; one computed test over the sizes.
 use Prim.Native.Nat.{ℕ, _+_, _*_, _-_, _/_, _%_, _<_}
-use mathlib.Core.Bool.{true, false, cond, _&&_}
-use mathlib.Core.List.{List, [], _∷_}
-use mathlib.Core.Path.{_≡_, refl, ap, ap₂, sym, _∙_}
+use mathlib.Core.Bool.{Bool, true, false}
+use mathlib.Core.List.{List}
+use mathlib.Core.Path.{_≡_, refl, ap, ap₂, sym, _∙_, subst}
 use native.Mathlib.Decide.{ℕ-discrete}
 use native.Mathlib.Nat.{add-zero, zero-mul, div-add-mod'}
 use native.Mathlib.Omega.{arith}
@@ -13,10 +13,12 @@ use lib.ListN.{length}
 use borrow.Author.Tests.{eq-eqb, ne-eqb}
 use Rattle.laws.specs.Keep.{keep}
 use Rattle.wcdma_shape.specs.Rectangle.{rows, primes, firstPrime, prime, colsOf, cols, cells}
+use Rattle.wcdma_shape.specs.Orders.{rowAt}
 use Rattle.wcdma_shape.specs.Shape.{rows-pos, prime-big}
 use Rattle.wcdma.specs.Turbo.{full, exchanged, column, origin, address}
 use Rattle.wcdma.specs.Laid.{plain}
-use Rattle.wcdma.specs.Full.{origin-first, origin-last}
+use Rattle.wcdma.specs.Full.{first-row, full-cols, full-cells, origin-first, origin-last}
+use Rattle.wcdma.specs.Law.{last-row}
 
 -- the sizes of full rectangles
 unfoldable pub fullSizes : List ℕ
@@ -26,11 +28,52 @@ pub sizes-touched : length fullSizes ≡ 59
 unfolding fullSizes keep full rows primes firstPrime prime colsOf cols cells
 sizes-touched = refl
 
+-- C = p + 1 and K = R·C
+abbrev pub Full : ℕ → Type 0
+Full k = (cols k ≡ prime k + 1) × (k ≡ rows k * cols k)
+
 module _ (k : ℕ) where
+  full-is : Full k → full k ≡ true
+  unfolding full cells
+  full-is h = rw (eq-eqb (cols k) (prime k + 1) (h .0), eq-eqb k (rows k * cols k) (h .1))
+
+  is-full : full k ≡ true → Full k
+  unfolding cells
+  is-full f = (full-cols k f, full-cells k f)
+
+  -- row 0 of a full rectangle takes the exchanged columns
+  row-takes : full k ≡ true → (j : ℕ) → column k 0 j ≡ exchanged (prime k) j
+  unfolding column
+  row-takes f j = rw f
+
+  -- the others take their own, and so do all rows of a rectangle that is not full
+  row-keeps : full k ≡ true → (i j : ℕ) → (i ≡ 0 → ⊥) → column k i j ≡ j
+  unfolding column
+  row-keeps f i j n = rw (f, ne-eqb i 0 n)
+
+  all-keep : full k ≡ false → (i j : ℕ) → column k i j ≡ j
+  unfolding column
+  all-keep f i j = rw f
+
   -- the address of row i of column j
   address-at : (i j : ℕ) → i < rows k → address k (j * rows k + i) ≡ origin k i (column k i j)
   unfolding address
   address-at i j h = ap₂ (λ (x y : ℕ). origin k x (column k x y)) (digits-mod j h) (digits-div j h)
+
+  module _ (i j : ℕ) (row : i < rows k) where
+    -- where C = p + 1 and K = R·C, columns 0 and p change places in the row with T(i) = R - 1
+    pub exchange-made : Full k → rowAt k i ≡ rows k - 1 → address k (j * rows k + i) ≡ origin k i (exchanged (prime k) j)
+    exchange-made h t =
+        address-at i j row
+        ∙ ap (origin k i) (subst (λ (x : ℕ). column k x j ≡ exchanged (prime k) j) (sym (last-row k i row t)) (row-takes (full-is h) j))
+
+    -- and nowhere else
+    pub exchange-left : (Full k → rowAt k i ≡ rows k - 1 → ⊥) → address k (j * rows k + i) ≡ origin k i j
+    exchange-left h = address-at i j row ∙ ap (origin k i) (go (full k) refl)
+      where
+        go : (b : Bool) → full k ≡ b → column k i j ≡ j
+        go true f = row-keeps f i j (λ e. h (is-full f) (ap (rowAt k) e ∙ first-row k))
+        go false f = all-keep f i j
 
   -- where the column that a cell takes is its own
   own-column : (n : ℕ) → column k (n % rows k) (n / rows k) ≡ n / rows k → address k n ≡ plain k n
@@ -39,24 +82,19 @@ module _ (k : ℕ) where
 
   -- no cell of a rectangle that is not full
   pub untouched : full k ≡ false → (n : ℕ) → address k n ≡ plain k n
-  unfolding column
-  untouched f n = own-column n (rw f)
+  untouched f n = own-column n (all-keep f (n % rows k) (n / rows k))
 
   module _ (f : full k ≡ true) where
-    first-row-takes : (j : ℕ) → column k 0 j ≡ exchanged (prime k) j
-    unfolding column
-    first-row-takes j = rw f
-
     -- the first cell has U(p), and so K - 1
     pub at-first : address k 0 ≡ k - 1
     at-first =
-        ap (address k) (sym (add-zero _ ∙ zero-mul (rows k))) ∙ address-at 0 0 (rows-pos k) ∙ ap (origin k 0) (first-row-takes 0) ∙ origin-last k f
+        ap (address k) (sym (add-zero _ ∙ zero-mul (rows k))) ∙ address-at 0 0 (rows-pos k) ∙ ap (origin k 0) (row-takes f 0) ∙ origin-last k f
 
     -- the first cell of the last column has U(0), and so K - p
     pub at-last : address k (prime k * rows k) ≡ k - prime k
     at-last =
         ap (address k) (sym (add-zero _)) ∙ address-at 0 (prime k) (rows-pos k)
-        ∙ ap (origin k 0) (first-row-takes (prime k) ∙ last (ne-eqb (prime k) 0 (λ e. omega (arith, prime-big k)))) ∙ origin-first k f
+        ∙ ap (origin k 0) (row-takes f (prime k) ∙ last (ne-eqb (prime k) 0 (λ e. omega (arith, prime-big k)))) ∙ origin-first k f
       where
         last : eqb (prime k) 0 ≡ false → exchanged (prime k) (prime k) ≡ 0
         last e = rw (e, eq-eqb (prime k) (prime k) refl)
@@ -71,6 +109,10 @@ module _ (k : ℕ) where
 
         go : Dec (n % rows k ≡ 0) → column k (n % rows k) (n / rows k) ≡ n / rows k
         go (yes e) =
-            rw (f, eq-eqb (n % rows k) 0 e, ne-eqb (n / rows k) 0 (λ z. a (here e ∙ ap (λ (j : ℕ). j * rows k) z ∙ zero-mul (rows k))),
-            ne-eqb (n / rows k) (prime k) (λ z. b (here e ∙ ap (λ (j : ℕ). j * rows k) z)))
-        go (no m) = rw (f, ne-eqb (n % rows k) 0 m)
+            rw (
+              f,
+              eq-eqb (n % rows k) 0 e,
+              ne-eqb (n / rows k) 0 (λ z. a (here e ∙ ap (λ (j : ℕ). j * rows k) z ∙ zero-mul (rows k))),
+              ne-eqb (n / rows k) (prime k) (λ z. b (here e ∙ ap (λ (j : ℕ). j * rows k) z)),
+            )
+        go (no m) = row-keeps f (n % rows k) (n / rows k) m

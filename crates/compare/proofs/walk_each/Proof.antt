@@ -7,10 +7,10 @@ use Rattle.compare.proofs.walk_each.Statement.{statement}
 use Rattle.compare.proofs.walk_each.Tie as tie
 
 abbrev Inv-loop : tie.InvT-loop
-Inv-loop way choice size list₀ slice₀ n c₀ i₀ list slice c i = (i ≤ n) × ((length list ≡ length list₀) × (length slice ≡ length slice₀))
+Inv-loop way choice size made list₀ slice₀ n c₀ i₀ list slice c i = (i ≤ n) × ((length list ≡ length list₀) × (length slice ≡ length slice₀))
 
 abbrev μ-loop : tie.MeasureT-loop
-μ-loop way choice size list₀ slice₀ n c₀ i₀ list slice c i = n - i
+μ-loop way choice size made list₀ slice₀ n c₀ i₀ list slice c i = n - i
 
 sets-in-requires : tie.Need-sets-in-requires Inv-loop μ-loop
 sets-in-requires c κs = search needs

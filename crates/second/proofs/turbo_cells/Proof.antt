@@ -7,10 +7,10 @@ use Rattle.second.proofs.turbo_cells.Statement.{statement}
 use Rattle.second.proofs.turbo_cells.Tie as tie
 
 abbrev Inv-loop : tie.InvT-loop
-Inv-loop set table list₀ k grid cells kept₀ cell₀ list kept cell = (cell ≤ cells) × (length list ≡ length list₀)
+Inv-loop set exchange table list₀ k grid cells kept₀ cell₀ list kept cell = (cell ≤ cells) × (length list ≡ length list₀)
 
 abbrev μ-loop : tie.MeasureT-loop
-μ-loop set table list₀ k grid cells kept₀ cell₀ list kept cell = cells - cell
+μ-loop set exchange table list₀ k grid cells kept₀ cell₀ list kept cell = cells - cell
 
 pub turbo-cells-spec : {M : Type 1} → statement M
 turbo-cells-spec =
