@@ -32,7 +32,7 @@ static feed_call *const feeds[][SIDES] = {
 struct row { enum kind kind; uint32_t from, sets, length; char name[80]; };
 static struct set sets[32];
 static struct row rows[64];
-static uint32_t set_count, row_count;
+static uint32_t set_count, row_count, shown; /* the rows from `shown` on are compared, and are not in the table */
 
 static void add_set(uint32_t profile, uint32_t bits, uint32_t n) { sets[set_count++] = (struct set){profile, bits, n}; }
 
@@ -73,6 +73,12 @@ static void lay_out(void)
     for (int i = 0; i < 4; i++)
         add_row(i < 2 ? FEED : FEED_BACK, 0, 0, i % 2 == 0 ? 204 : 65280, i < 2 ? "DVB interleaver" : "DVB deinterleaver",
                 i % 2 == 0 ? ", feeds of 204" : ", feeds of 65280");
+    shown = row_count;
+    static const uint32_t full[] = {40, 200, 5040};
+    for (int i = 0; i < 3; i++)
+        add_set(5, 1, full[i]);
+    add_row(WALK, TURBO_5114 + 1, 3, 0, "walk, full rectangles", "");
+    add_row(WALK, TURBO_5114 + 1, 3, 7, "walk, full rectangles", ", slices of 7");
 }
 
 /* What a side writes to. The input is the same for all. */
@@ -225,7 +231,7 @@ int main(int count, char **words)
     int wrong = 0;
     lay_out();
     if (strcmp(task, "rows") == 0)
-        for (uint32_t i = 0; i < row_count; i++)
+        for (uint32_t i = 0; i < shown; i++)
             printf("%u %u %s\n", i, amount(rows + i), rows[i].name);
     else if (strcmp(task, "check") == 0)
         for (uint32_t i = 0; i < row_count && wrong == 0; i++)

@@ -81,6 +81,19 @@ static void plan_of(uint32_t k, struct plan *b)
     b->k = k, b->r = r, b->p = p, b->c = c;
 }
 
+/* A full rectangle, C = p + 1 and K = R * C, has no padding. U(p) and U(0) of its row 0 change places: the two addresses are written over behind a
+   walk from a cell on. */
+static void exchange(const struct plan *b, uint32_t from, uint16_t *out, size_t room)
+{
+    uint32_t last = b->p * b->r;
+    if (b->c != b->p + 1 || b->k != b->r * b->c)
+        return;
+    if (from == 0 && room != 0)
+        out[0] = b->k - 1;
+    if (from <= last && last - from < room)
+        out[last - from] = b->k - b->p;
+}
+
 static uint32_t divide_turbo(uint32_t k, uint32_t *cell, uint16_t *restrict out, size_t room)
 {
     struct plan b;
@@ -95,6 +108,7 @@ static uint32_t divide_turbo(uint32_t k, uint32_t *cell, uint16_t *restrict out,
             j++;
         }
     }
+    exchange(&b, *cell, out, room);
     *cell = here;
     return n;
 }
@@ -124,6 +138,7 @@ static uint32_t step_turbo(uint32_t k, uint32_t *cell, uint16_t *restrict out, s
             j++;
         }
     }
+    exchange(&b, *cell, out, room);
     *cell = j * b.r + i;
     return n;
 }

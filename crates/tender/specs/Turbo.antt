@@ -34,7 +34,7 @@ padding-reached = pads.padding-most
 -- the address of row i of column j
 module _ (k i j : ℕ) (row : i < rows k) where
   -- where C = p + 1 and K = R·C, the row with T(i) = R - 1 has U(p) at j = 0, U(0) at j = p, and U(j) at every other j
-  pub exchange-made : Full k → rowAt k i ≡ rows k - 1 → address k (j * rows k + i) ≡ origin k i (exchanged (prime k) j)
+  pub exchange-made : Full k → rowAt k i ≡ rows k - 1 → address k (j * rows k + i) ≡ origin k i (exchanged 0 (prime k) j)
   exchange-made = touched.exchange-made k i j row
 
   -- in any other row, and in any other rectangle, U(j) stands at j

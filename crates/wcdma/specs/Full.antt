@@ -17,17 +17,17 @@ use Rattle.wcdma_shape.specs.Shape.{choice, rows-pos, rows-le, prime-big}
 use Rattle.wcdma.specs.Turbo.{entry, full, exchanged, column, origin}
 
 -- the exchange undoes itself
-pub exchange-back : (p j : ℕ) → exchanged p (exchanged p j) ≡ j
-exchange-back p j = go (ℕ-discrete j 0) (ℕ-discrete j p)
+pub exchange-back : (a b j : ℕ) → exchanged a b (exchanged a b j) ≡ j
+exchange-back a b j = go (ℕ-discrete j a) (ℕ-discrete j b)
   where
-    first : Dec (p ≡ 0) → j ≡ 0 → exchanged p p ≡ j
-    first (yes z) a = rw (eq-eqb p 0 z) (omega arith)
-    first (no z) a = rw (ne-eqb p 0 z, eq-eqb p p refl) (sym a)
+    from-b : Dec (b ≡ a) → j ≡ a → exchanged a b b ≡ j
+    from-b (yes e) h = rw (eq-eqb b a e) (e ∙ sym h)
+    from-b (no e) h = rw (ne-eqb b a e, eq-eqb b b refl) (sym h)
 
-    go : Dec (j ≡ 0) → Dec (j ≡ p) → exchanged p (exchanged p j) ≡ j
-    go (yes a) b = rw (eq-eqb j 0 a) (first (ℕ-discrete p 0) a)
-    go (no a) (yes b) = rw (ne-eqb j 0 a, eq-eqb j p b) (sym b)
-    go (no a) (no b) = rw (ne-eqb j 0 a, ne-eqb j p b) (rw (ne-eqb j 0 a, ne-eqb j p b) refl)
+    go : Dec (j ≡ a) → Dec (j ≡ b) → exchanged a b (exchanged a b j) ≡ j
+    go (yes h) l = rw (eq-eqb j a h) (from-b (ℕ-discrete b a) h)
+    go (no h) (yes l) = rw (ne-eqb j a h, eq-eqb j b l, eq-eqb a a refl) (sym l)
+    go (no h) (no l) = rw (ne-eqb j a h, ne-eqb j b l) (rw (ne-eqb j a h, ne-eqb j b l) refl)
 
 firsts : every (λ o. eqb (getD o 0 0) 19) rowOrders ≡ true
 unfolding rowOrders
@@ -44,13 +44,27 @@ module _ (k : ℕ) where
       let c : getD (orderOf k) 0 0 ≡ 19 = eqb-true (getD (orderOf k) 0 0) 19 (at-each (λ o. eqb (getD o 0 0) 19) rowOrders firsts (order-listed k)) in
       omega arith)
 
-  -- the column that a cell takes is one of the columns, and the one that it is taken from
+  -- row 0 of a full rectangle takes columns 0 and p exchanged
+  pub row-takes : full k ≡ true → (j : ℕ) → column k 0 j ≡ exchanged 0 (prime k) j
+  unfolding column
+  row-takes f j = rw f
+
+  -- the other rows take their own columns, and so do all rows of a rectangle that is not full
+  pub row-keeps : full k ≡ true → (i j : ℕ) → (i ≡ 0 → ⊥) → column k i j ≡ j
+  unfolding column
+  row-keeps f i j n = rw (f, ne-eqb i 0 n)
+
+  pub all-keep : full k ≡ false → (i j : ℕ) → column k i j ≡ j
+  unfolding column
+  all-keep f i j = rw f
+
+  -- the column that a cell takes, taken again, is the cell's own
   pub column-back : (i j : ℕ) → column k i (column k i j) ≡ j
   unfolding column
   column-back i j = go (full k && eqb i 0)
     where
-      go : (b : Bool) → cond b (exchanged (prime k) (cond b (exchanged (prime k) j) j)) (cond b (exchanged (prime k) j) j) ≡ j
-      go true = exchange-back (prime k) j
+      go : (t : Bool) → cond t (exchanged 0 (prime k) (cond t (exchanged 0 (prime k) j) j)) (cond t (exchanged 0 (prime k) j) j) ≡ j
+      go true = exchange-back 0 (prime k) j
       go false = refl
 
   pub full-cols : full k ≡ true → cols k ≡ prime k + 1
@@ -61,6 +75,7 @@ module _ (k : ℕ) where
   unfolding full
   full-cells f = eqb-true k (cells k) (both (eqb (cols k) (prime k + 1)) (eqb k (cells k)) f .1)
 
+  -- and it is one of the columns
   pub column-lt : (i j : ℕ) → j < cols k → column k i j < cols k
   unfolding column
   column-lt i j l =

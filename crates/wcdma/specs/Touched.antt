@@ -17,7 +17,7 @@ use Rattle.wcdma_shape.specs.Orders.{rowAt}
 use Rattle.wcdma_shape.specs.Shape.{rows-pos, prime-big}
 use Rattle.wcdma.specs.Turbo.{full, exchanged, column, origin, address}
 use Rattle.wcdma.specs.Laid.{plain}
-use Rattle.wcdma.specs.Full.{first-row, full-cols, full-cells, origin-first, origin-last}
+use Rattle.wcdma.specs.Full.{first-row, row-takes, row-keeps, all-keep, full-cols, full-cells, origin-first, origin-last}
 use Rattle.wcdma.specs.Law.{last-row}
 
 -- the sizes of full rectangles
@@ -41,20 +41,6 @@ module _ (k : ℕ) where
   unfolding cells
   is-full f = (full-cols k f, full-cells k f)
 
-  -- row 0 of a full rectangle takes the exchanged columns
-  row-takes : full k ≡ true → (j : ℕ) → column k 0 j ≡ exchanged (prime k) j
-  unfolding column
-  row-takes f j = rw f
-
-  -- the others take their own, and so do all rows of a rectangle that is not full
-  row-keeps : full k ≡ true → (i j : ℕ) → (i ≡ 0 → ⊥) → column k i j ≡ j
-  unfolding column
-  row-keeps f i j n = rw (f, ne-eqb i 0 n)
-
-  all-keep : full k ≡ false → (i j : ℕ) → column k i j ≡ j
-  unfolding column
-  all-keep f i j = rw f
-
   -- the address of row i of column j
   address-at : (i j : ℕ) → i < rows k → address k (j * rows k + i) ≡ origin k i (column k i j)
   unfolding address
@@ -62,18 +48,18 @@ module _ (k : ℕ) where
 
   module _ (i j : ℕ) (row : i < rows k) where
     -- where C = p + 1 and K = R·C, columns 0 and p change places in the row with T(i) = R - 1
-    pub exchange-made : Full k → rowAt k i ≡ rows k - 1 → address k (j * rows k + i) ≡ origin k i (exchanged (prime k) j)
+    pub exchange-made : Full k → rowAt k i ≡ rows k - 1 → address k (j * rows k + i) ≡ origin k i (exchanged 0 (prime k) j)
     exchange-made h t =
         address-at i j row
-        ∙ ap (origin k i) (subst (λ (x : ℕ). column k x j ≡ exchanged (prime k) j) (sym (last-row k i row t)) (row-takes (full-is h) j))
+        ∙ ap (origin k i) (subst (λ (x : ℕ). column k x j ≡ exchanged 0 (prime k) j) (sym (last-row k i row t)) (row-takes k (full-is h) j))
 
     -- and nowhere else
     pub exchange-left : (Full k → rowAt k i ≡ rows k - 1 → ⊥) → address k (j * rows k + i) ≡ origin k i j
     exchange-left h = address-at i j row ∙ ap (origin k i) (go (full k) refl)
       where
         go : (b : Bool) → full k ≡ b → column k i j ≡ j
-        go true f = row-keeps f i j (λ e. h (is-full f) (ap (rowAt k) e ∙ first-row k))
-        go false f = all-keep f i j
+        go true f = row-keeps k f i j (λ e. h (is-full f) (ap (rowAt k) e ∙ first-row k))
+        go false f = all-keep k f i j
 
   -- where the column that a cell takes is its own
   own-column : (n : ℕ) → column k (n % rows k) (n / rows k) ≡ n / rows k → address k n ≡ plain k n
@@ -82,21 +68,21 @@ module _ (k : ℕ) where
 
   -- no cell of a rectangle that is not full
   pub untouched : full k ≡ false → (n : ℕ) → address k n ≡ plain k n
-  untouched f n = own-column n (all-keep f (n % rows k) (n / rows k))
+  untouched f n = own-column n (all-keep k f (n % rows k) (n / rows k))
 
   module _ (f : full k ≡ true) where
     -- the first cell has U(p), and so K - 1
     pub at-first : address k 0 ≡ k - 1
     at-first =
-        ap (address k) (sym (add-zero _ ∙ zero-mul (rows k))) ∙ address-at 0 0 (rows-pos k) ∙ ap (origin k 0) (row-takes f 0) ∙ origin-last k f
+        ap (address k) (sym (add-zero _ ∙ zero-mul (rows k))) ∙ address-at 0 0 (rows-pos k) ∙ ap (origin k 0) (row-takes k f 0) ∙ origin-last k f
 
     -- the first cell of the last column has U(0), and so K - p
     pub at-last : address k (prime k * rows k) ≡ k - prime k
     at-last =
         ap (address k) (sym (add-zero _)) ∙ address-at 0 (prime k) (rows-pos k)
-        ∙ ap (origin k 0) (row-takes f (prime k) ∙ last (ne-eqb (prime k) 0 (λ e. omega (arith, prime-big k)))) ∙ origin-first k f
+        ∙ ap (origin k 0) (row-takes k f (prime k) ∙ last (ne-eqb (prime k) 0 (λ e. omega (arith, prime-big k)))) ∙ origin-first k f
       where
-        last : eqb (prime k) 0 ≡ false → exchanged (prime k) (prime k) ≡ 0
+        last : eqb (prime k) 0 ≡ false → exchanged 0 (prime k) (prime k) ≡ 0
         last e = rw (e, eq-eqb (prime k) (prime k) refl)
 
     -- no other cell
@@ -115,4 +101,4 @@ module _ (k : ℕ) where
               ne-eqb (n / rows k) 0 (λ z. a (here e ∙ ap (λ (j : ℕ). j * rows k) z ∙ zero-mul (rows k))),
               ne-eqb (n / rows k) (prime k) (λ z. b (here e ∙ ap (λ (j : ℕ). j * rows k) z)),
             )
-        go (no m) = row-keeps f (n % rows k) (n / rows k) m
+        go (no m) = row-keeps k f (n % rows k) (n / rows k) m

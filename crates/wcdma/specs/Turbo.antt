@@ -26,13 +26,13 @@ entry p v c q j = entryWith p c (power p v (j * q % (p - 1))) j
 unfoldable pub full : ℕ → Bool
 full k = eqb (cols k) (prime k + 1) && eqb k (cells k)
 
--- 0 and p change places
-abbrev pub exchanged : ℕ → ℕ → ℕ
-exchanged p j = cond (eqb j 0) p (cond (eqb j p) 0 j)
+-- a and b change places
+abbrev pub exchanged : ℕ → ℕ → ℕ → ℕ
+exchanged a b j = cond (eqb j a) b (cond (eqb j b) a j)
 
 -- the column whose U a cell takes, row i of column j: j, but if C = p + 1 and K = R·C, columns 0 and p change places in row i = 0
 unfoldable pub column : ℕ → ℕ → ℕ → ℕ
-column k i j = cond (full k && eqb i 0) (exchanged (prime k) j) j
+column k i j = cond (full k && eqb i 0) (exchanged 0 (prime k) j) j
 
 -- T(i)·C + U(j)
 unfoldable pub origin : ℕ → ℕ → ℕ → ℕ
