@@ -3,7 +3,7 @@
 use Prim.Native.Nat.{ℕ, suc, _+_, _*_, _-_, _<_}
 use mathlib.Core.Bool.{Bool, true, false, cond, _&&_}
 use mathlib.Core.Path.{_≡_, refl, ap, sym, _∙_}
-use native.Mathlib.Nat.{suc-mul, zero-mul, zero-mod}
+use native.Mathlib.Nat.{suc-mul, zero-mul, zero-mod, mul-comm, add-mul, one-mul}
 use native.Mathlib.Omega.{arith}
 use native.Mathlib.Decide.{ℕ-discrete}
 use lib.Dec.{eqb, ltb}
@@ -85,10 +85,16 @@ module _ (k : ℕ) where
       (λ e. l)
 
   module _ (f : full k ≡ true) where
-    -- R·C by its last row
-    pub last-cells : k ≡ (rows k - 1) * (prime k + 1) + (prime k + 1)
+    -- K by its last column, and by its last row
+    pub last-column : k ≡ prime k * rows k + rows k
     unfolding cells
-    last-cells =
+    last-column =
+        full-cells f ∙ ap (λ (c : ℕ). rows k * c) (full-cols f)
+        ∙ mul-comm (rows k) (prime k + 1) ∙ add-mul (prime k) 1 (rows k) ∙ ap (λ (x : ℕ). prime k * rows k + x) (one-mul (rows k))
+
+    pub last-row : k ≡ (rows k - 1) * (prime k + 1) + (prime k + 1)
+    unfolding cells
+    last-row =
         full-cells f ∙ ap (λ (c : ℕ). rows k * c) (full-cols f)
         ∙ ap (λ (r : ℕ). r * (prime k + 1)) (let h = rows-pos k in let e : rows k ≡ suc (rows k - 1) = omega arith in e)
         ∙ suc-mul (rows k - 1) (prime k + 1)
@@ -102,11 +108,11 @@ module _ (k : ℕ) where
     origin-last =
         let b = prime-big k in
         rw (row-begins, full-cols f, ne-eqb (prime k + 1) (prime k - 1) (λ e. omega arith), le-ltb (prime k) (prime k - 1) (omega arith), ne-eqb (prime k) (prime k - 1) (λ e. omega arith))
-        (omega (arith, last-cells))
+        (omega (arith, last-row))
 
     pub origin-first : origin k 0 0 ≡ k - prime k
     unfolding origin entry power
     origin-first =
         let b = prime-big k in
         rw (row-begins, full-cols f, ne-eqb (prime k + 1) (prime k - 1) (λ e. omega arith), lt-ltb 0 (prime k - 1) (omega arith), zero-mul, zero-mod)
-        (omega (arith, last-cells))
+        (omega (arith, last-row))

@@ -1,6 +1,6 @@
-// Full rectangles, C = p + 1 and K = R·C: in row 0 the entries U of columns 0 and p change places. The walk goes by U of each cell's own column;
-// here the two addresses are written over behind it, where it has come by them, so that no cell asks. A full rectangle has no padding: a cell's
-// address stands as far from the slice's front as the cell from the one where the walk began.
+// Full rectangles, C = p + 1 and K = R·C: in row 0 the entries U of columns 0 and p change places. The walk goes by U of each cell's own column, and
+// where it has come by the two cells, their addresses are written over behind it: no cell is asked whether it is one of them. A full rectangle has no
+// padding, so a cell's address stands as far from the slice's front as the cell from the walk's first.
 use wcdma_shape::Shape;
 ghost use mathlib.Core.Path.{_≡_};
 ghost use Prim.Native.Nat.{_<_};
@@ -9,7 +9,8 @@ ghost use Rattle.wcdma.specs.Turbo.{full};
 ghost use Rattle.wcdma_full.specs.Put.{putAt};
 ghost use Rattle.wcdma_full.specs.Exchange.{exchangeIn};
 
-fn is_full(shape: Shape) -> bool
+// Whether the rectangle is full. A walk asks before its loop, which then has to keep nothing for the exchange.
+pub fn is_full(shape: Shape) -> bool
     requires { ⌜ ShapeOf shape ⌝ }
     ensures { λ r. ⌜ r ≡ full (shape .k) ⌝ }
 {
@@ -31,17 +32,17 @@ fn put(out: &mut [u16], first: usize, cell: usize, address: usize)
     }
 }
 
-// The exchange, in the slice that a walk from `first` on has filled. T(0) = R - 1, so row 0 ends at K: with U(p) = p its address is K - 1, and
-// with U(0) = 1 it is K - p.
-pub fn exchange(shape: Shape, first: usize, out: &mut [u16])
-    requires { ⌜ ShapeOf shape ⌝ }
+// The exchange where the rectangle is full, in the slice that a walk from `first` on has filled. T(0) = R - 1, so row 0 holds the last C of the K
+// addresses: U(p) = p is K - 1, at cell 0, and U(0) = 1 is K - p, or K + 1 - C, at the first cell of column p, R cells before the end.
+pub fn exchange(shape: Shape, whole: bool, first: usize, out: &mut [u16])
+    requires { ⌜ ShapeOf shape × (whole ≡ full (shape .k)) ⌝ }
     ensures { λ _. ⌜ now (out .exit) ≡ exchangeIn (shape .k) first (now (out .entry)) ⌝ }
 {
-    if is_full(shape) {
+    if whole {
         let k = shape.k;
-        let p = shape.p;
-        let last = p * shape.r;
+        let last = k - shape.r;
+        let low = k + 1 - shape.c;
         put(out, first, 0, k - 1);
-        put(out, first, last, k - p);
+        put(out, first, last, low);
     }
 }

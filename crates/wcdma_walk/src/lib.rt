@@ -21,6 +21,7 @@ fn walk_by(shape: Shape, q: &[u32; 20], cell: usize, out: &mut [u16]) -> Leaf
     let less = wcdma_setup::short_by(shape.c, p);
     let mut s = [0u16; 256];
     wcdma_setup::powers(p as u32, shape.v, less, &mut s);
+    let full = wcdma_full::is_full(shape);
     let row = cell % r;
     let column = cell / r;
     let mut base = [0usize; 20];
@@ -28,7 +29,7 @@ fn walk_by(shape: Shape, q: &[u32; 20], cell: usize, out: &mut [u16]) -> Leaf
     let mut e = [0usize; 20];
     wcdma_rows::lay_out(shape, q, row, column as u32, &mut base, &mut fall, &mut e);
     let went = wcdma_cells::fill(shape, cell, row, column, &s, &base, &fall, &mut e, out);
-    wcdma_full::exchange(shape, cell, out);
+    wcdma_full::exchange(shape, full, cell, out);
     went
 }
 

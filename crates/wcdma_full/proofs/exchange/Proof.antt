@@ -1,29 +1,34 @@
 -- `exchange` puts the two addresses in their places, in a full rectangle.
 use borrow.Author.Needs.{needs}
-use mathlib.Core.Path.{sym, _∙_}
-use native.Mathlib.Omega.{arith}
+use mathlib.Core.Bool.{true}
+use mathlib.Core.Path.{_≡_, sym, _∙_}
+use Rattle.wcdma.specs.Turbo.{full}
 use Rattle.wcdma_full.specs.Exchange.{exchangeIn}
-use Rattle.wcdma_full.proofs.Shaped.{exchange-is, last-small, prime-below}
+use Rattle.wcdma_full.proofs.Shaped.{exchange-is, last-is, low-is}
 use Rattle.wcdma_full.proofs.exchange.Statement.{statement}
 use Rattle.wcdma_full.proofs.exchange.Tie as tie
 
-is-full-requires : tie.Need-is-full-requires
-is-full-requires c κs = search needs
+-- the rectangle is full
+abbrev start : tie.Then1 → tie.Start
+start t = t .before .before
 
-mul-last : tie.Need-mul-last
-mul-last c = let a = c .before .before .before .before in omega (arith, last-small (a .args .shape) (a .pre))
+told : (t : tie.Then1) → full (start t .args .shape .k) ≡ true
+told t = sym (start t .pre .1) ∙ t .if1 .taken
+
+sub-last : tie.Need-sub-last
+sub-last c = let t = c .before in last-is (start t .args .shape) (start t .pre .0) (told t) .0
+
+add-low : tie.Need-add-low
+add-low c = search needs
+
+sub-low : tie.Need-sub-low
+sub-low c = let t = c .before .before in low-is (start t .args .shape) (start t .pre .0) (told t) .0
 
 sub-put : tie.Need-sub-put
 sub-put c = search needs
 
 put-requires : tie.Need-put-requires
 put-requires c κs = search needs
-
-sub-put-2 : tie.Need-sub-put-2
-sub-put-2 c =
-    let t = c .before .before .before .before .before .before in
-    let a = t .before .before .before in
-    omega (arith, prime-below (a .args .shape) (a .pre) (sym (t .before .is-full .ensures) ∙ t .if1 .taken))
 
 put-requires-2 : tie.Need-put-requires-2
 put-requires-2 c κs = search needs
@@ -33,15 +38,14 @@ same-length c = search needs
 
 returns : tie.Need-returns
 returns c =
-    let t = c .before .before .before .before .before .before .before .before .before in
-    let a = t .before .before .before in
-    exchange-is (a .args .shape) (a .pre) _ _ (sym (t .before .is-full .ensures) ∙ t .if1 .taken) (c .before .before .before .before .before .before .put .ensures) (c .before .before .put2 .ensures)
+    let b = c .before .before in
+    let a = b .before .before .before .before in
+    let t = a .before .before .before .before in
+    exchange-is (start t .args .shape) (start t .pre .0) (told t) _ _ (a .put .ensures) (b .put2 .ensures)
 
 returns-2 : tie.Need-returns-2
 unfolding exchangeIn
-returns-2 c = rw (sym (c .before .is-full .ensures) ∙ c .if1 .left)
+returns-2 c = rw (sym (c .before .before .pre .1) ∙ c .if1 .left)
 
 pub exchange-spec : {M : Type 1} → statement M
-exchange-spec =
-    tie.close
-    (tie.spec is-full-requires mul-last sub-put put-requires sub-put-2 put-requires-2 same-length returns returns-2)
+exchange-spec = tie.close (tie.spec sub-last add-low sub-low sub-put put-requires put-requires-2 same-length returns returns-2)

@@ -29,25 +29,46 @@ powers-requires c κs =
       long = refl;
     }
 
+is-full-requires : tie.Need-is-full-requires
+is-full-requires c κs = search needs
+
+-- behind the set-up: the call
+abbrev start : tie.After-is-full → tie.Start
+start c = c .before .before .before .before .before
+
 rem-row : tie.Need-rem-row
-rem-row c = rows-some (c .before .before .before .before .pre)
+rem-row c = rows-some (start c .pre)
 
 div-column : tie.Need-div-column
-div-column c = rows-some (c .before .before .before .before .pre)
+div-column c = rows-some (start c .pre)
 
 cast-lay-out : tie.Need-cast-lay-out
-cast-lay-out c = omega (arith, column-small (c .before .before .before .before .pre))
+cast-lay-out c = omega (arith, column-small (start c .pre))
 
 lay-out-requires : tie.Need-lay-out-requires
 lay-out-requires c κs =
-    let b = c .before .before .before .before .before .before .before .pre in
+    let b = start (c .before .before .before) .pre in
     record { shape = b .shape; numbers = b .numbers; column = column-small b; base-long = refl; fall-long = refl; at-long = refl }
 
+-- and behind the rows
+abbrev set-up : tie.After-lay-out → tie.After-is-full
+set-up c = c .before .before .before .before
+
 fill-requires : tie.Need-fill-requires
-fill-requires c κs = fill-in (c .before .before .before .before .before .before .before .before .before .before .before .before .before .pre) _ _ _ _ (c .before .before .before .before .before .before .before .before .before .before .before .short-by .result) (c .before .before .before .before .before .before .before .before .before .before .before .short-by .ensures) (c .before .before .before .before .before .before .before .before .before .powers .ensures) (c .before .before .before .before .before .lay-out .ensures)
+fill-requires c κs =
+    let r = c .before .before .before .before .before in
+    let p = set-up r .before in
+    let b = p .before .before .short-by in
+    fill-in (start (set-up r) .pre) _ _ _ _ (b .result) (b .ensures) (p .powers .ensures) (r .lay-out .ensures)
+
+-- and behind the walk
+abbrev laid : tie.After-fill → tie.After-lay-out
+laid c = c .before .before .before .before .before .before
 
 exchange-requires : tie.Need-exchange-requires
-exchange-requires c κs = search needs
+exchange-requires c κs =
+    let s = set-up (laid (c .before .before .before)) in
+    (start s .pre .shape, s .is-full .ensures)
 
 same-length : tie.Need-same-length
 same-length c = search needs
@@ -56,7 +77,7 @@ returns : tie.Need-returns
 returns c =
     let e = c .before .before in
     let f = e .before .before .before .before in
-    let s = f .before .before .before .before .before .before .before .before .before .before .before .before .before .before in
+    let s = start (set-up (laid f)) in
     exchange-went (s .args .shape .k) (s .args .cell) _ (s .pre .within) (f .fill .ensures) (e .exchange .ensures)
 
 pub walk-by-spec : {M : Type 1} → statement M
@@ -66,6 +87,7 @@ walk-by-spec =
     short-by-requires
     cast-powers
     powers-requires
+    is-full-requires
     rem-row
     div-column
     cast-lay-out
