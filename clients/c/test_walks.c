@@ -41,7 +41,8 @@ static void parts(walk *go, interleaver_set set, const uint16_t *list, uint32_t 
 void walks(void) {
     static const uint16_t first[] = {40, 30, 20, 10, 0, 36, 21, 17, 6};
     static uint16_t l[MAX + 1], m[MAX + 1];
-    const interleaver_set turbo = {INTERLEAVER_WCDMA, 1, 41};
+    static const uint16_t last[] = {33, 31, 23, 15, 7};
+    const interleaver_set turbo = {INTERLEAVER_WCDMA, 1, 41}, full = {INTERLEAVER_WCDMA, 1, 40};
     uint32_t cell = 0, written = 0, cells = 0;
     unsigned i, k, wrong;
     for (i = 0; i < SETS; i++) {
@@ -61,6 +62,10 @@ void walks(void) {
     }
     EXPECT(interleaver_walk_l(&turbo, &cell, l, 9, &written, &cells) == 0);
     EXPECT(memcmp(l, first, sizeof first) == 0 && written == 9 && cells == 10 && cell == 10);
+    cell = 0;
+    EXPECT(interleaver_walk_l(&full, &cell, l, 1, &written, &cells) == 0 && l[0] == 39 && cell == 1);
+    cell = 35;
+    EXPECT(interleaver_walk_l(&full, &cell, l, 5, &written, &cells) == 0 && memcmp(l, last, sizeof last) == 0 && cell == 40);
     cell = 3, written = 4, cells = 5, l[0] = 6;
     for (i = 0; i < REFUSED; i++) {
         uint32_t number = refused[i].number, back = refused[i].set.profile == 5 ? 1 : number;

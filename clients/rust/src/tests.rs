@@ -33,6 +33,9 @@ fn addresses_of_document_01() {
     let set = Set::new(4, 4, 64).unwrap();
     assert_eq!([4, 5, 6, 7].map(|t| set.source(t).unwrap()), [17, 1, 49, 33]);
     assert_eq!((set.source(64), set.target(u32::MAX)), (Err(Refusal::Position), Err(Refusal::Position)));
+    let full = Set::new(5, 1, 40).unwrap();
+    assert_eq!([0, 1, 34, 35, 36].map(|t| full.source(t).unwrap()), [39, 25, 0, 33, 31]);
+    assert_eq!([39, 33].map(|k| full.target(k).unwrap()), [0, 35]);
 }
 
 #[test]

@@ -1,4 +1,4 @@
--- Condition 2 of the tender: exactly the listed parameter sets are accepted, and served; each symbol goes where the formula of document 01 sends it,
+-- Condition 2 of the tender: exactly the listed parameter sets are accepted, and served; each symbol goes where the standard's formula sends it,
 -- and comes back; each index is used once; no symbol's value is read to decide where anything goes. Each theorem is a statement for a reader,
 -- over the definitions that the public contracts cite; its proof is a citation. (Symbols of a width are in Symbols.antt, the stream in Stream.antt.)
 use Prim.Native.Nat.{ℕ, _*_, _≤_, _<_}
@@ -76,7 +76,7 @@ formulas-carrier s ne =
     let e = rule-is s (other-carrier s ne) in
     (ap (λ (r : Rule). r .l) e, ap (λ (r : Rule). r .m) e)
 
--- .. and for profile 5 the WCDMA turbo list as document 01 describes it (docs/DECISIONS.md, 11), and the place in it
+-- .. and for profile 5 the WCDMA turbo list of 3GPP TS 25.212, and the place in it
 pub formulas-turbo : (s : Set) → s .profile ≡ 5 → (L s ≡ turboL (s .n)) × (M s ≡ turboM (s .n))
 formulas-turbo s e =
     let q = rule-is s (five-turbo s e) in

@@ -1,6 +1,6 @@
--- The starred cases of document 01, "Checked by hand", in one proved table, over the definitions that the public contracts cite, and a second
--- table of ours for what 01's leave out. A row says a question, a set, an argument and the numbers that are expected. `refl` at its end: the
--- definitions compute to those numbers.
+-- The starred cases of document 01, "Checked by hand", K 40 with the last five addresses of change request 1 and K 200 beside it, in one proved table,
+-- over the definitions that the public contracts cite, and a second table of ours for what these leave out. A row says a question, a set, an
+-- argument and the numbers that are expected. `refl` at its end: the definitions compute to those numbers.
 use Prim.Native.Nat.{ℕ, _-_, _≤_}
 use mathlib.Core.Bool.{cond}
 use mathlib.Core.List.{List, [], _∷_}
@@ -141,7 +141,7 @@ stars =
     ∷ row padded (turbo 5114) 0 (6 ∷ []) (counted 5114 (omega arith))
     ∷ []
 
--- cases of ours, in the same form: their numbers were computed from 01's text by another program than the definitions
+-- cases of ours, in the same form: their numbers were computed from the documents by another program than the definitions
 unfoldable pub ours : List Row
 unfolding answer padCells padding listL ruleOf familyOf keep rowsOf groupOf firstStep secondStep carrierM backStep lastStep carrierL rows primes firstPrime prime colsOf cols cells power firstOne generates rootFrom root gcdIn gcd noDivisor isPrime passes nextIn nextQ qOf rowOrders whichOrder orderOf rowAt entry full column origin address addresses turboM position
 ours =
