@@ -43,7 +43,7 @@ module _ (k i j : ℕ) (row : i < rows k) where
 
 -- that row is row 0, in every row order, and no other is
 pub exchange-row : (k : ℕ) → (rowAt k 0 ≡ rows k - 1) × ((i : ℕ) → i < rows k → rowAt k i ≡ rows k - 1 → i ≡ 0)
-exchange-row k = (whole.first-row k, law.last-row k)
+exchange-row k = (whole.first-row k, law.first-alone k)
 
 -- 59 of the sizes have such a rectangle
 pub exchange-sizes : length fullSizes ≡ 59

@@ -48,8 +48,8 @@ module _ (k : ℕ) where
           sym (o .m-of-l i (omega arith)) ∙ ap (λ (x : ℕ). position x (orderOf k)) q ∙ o .m-of-l j (omega arith)
 
   -- no row but row 0 has T(i) = R - 1
-  pub last-row : (i : ℕ) → i < rows k → rowAt k i ≡ rows k - 1 → i ≡ 0
-  last-row i l e = row-inj i 0 l (rows-pos k) (e ∙ sym (first-row k))
+  pub first-alone : (i : ℕ) → i < rows k → rowAt k i ≡ rows k - 1 → i ≡ 0
+  first-alone i l e = row-inj i 0 l (rows-pos k) (e ∙ sym (first-row k))
 
   -- a cell's column is one of the columns
   pub col-lt : (n : ℕ) → n < cells k → n / rows k < cols k

@@ -18,7 +18,7 @@ use Rattle.wcdma_shape.specs.Shape.{rows-pos, prime-big}
 use Rattle.wcdma.specs.Turbo.{full, exchanged, column, origin, address}
 use Rattle.wcdma.specs.Laid.{plain}
 use Rattle.wcdma.specs.Full.{first-row, row-takes, row-keeps, all-keep, full-cols, full-cells, origin-first, origin-last}
-use Rattle.wcdma.specs.Law.{last-row}
+use Rattle.wcdma.specs.Law.{first-alone}
 
 -- the sizes of full rectangles
 unfoldable pub fullSizes : List ℕ
@@ -51,7 +51,7 @@ module _ (k : ℕ) where
     pub exchange-made : Full k → rowAt k i ≡ rows k - 1 → address k (j * rows k + i) ≡ origin k i (exchanged 0 (prime k) j)
     exchange-made h t =
         address-at i j row
-        ∙ ap (origin k i) (subst (λ (x : ℕ). column k x j ≡ exchanged 0 (prime k) j) (sym (last-row k i row t)) (row-takes k (full-is h) j))
+        ∙ ap (origin k i) (subst (λ (x : ℕ). column k x j ≡ exchanged 0 (prime k) j) (sym (first-alone k i row t)) (row-takes k (full-is h) j))
 
     -- and nowhere else
     pub exchange-left : (Full k → rowAt k i ≡ rows k - 1 → ⊥) → address k (j * rows k + i) ≡ origin k i j

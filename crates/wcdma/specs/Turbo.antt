@@ -40,7 +40,8 @@ origin k i j = rowAt k i * cols k + entry (prime k) (root (prime k)) (cols k) (q
 
 -- the address of a cell, row i of column j: T(i)·C + U at the column that it takes. Cells are counted down the columns. (The standard permutes each
 -- row by r and then the rows by T, with r(T(i)) = q(i): row i after the inter-row permutation is row T(i) before it, so the number of row i here is
--- q(i). It exchanges U(p) and U(0) in row R - 1 as it is before the inter-row permutation. T(0) = R - 1 and no other T(i) is: `last-row` in Full.)
+-- q(i). It exchanges U(p) and U(0) in row R - 1 as it is before the inter-row permutation; T(0) = R - 1, and no other T(i) is: `first-row` in
+-- Full, `first-alone` in Law.)
 unfoldable pub address : ℕ → ℕ → ℕ
 address k cell = origin k (cell % rows k) (column k (cell % rows k) (cell / rows k))
 

@@ -1,13 +1,13 @@
 -- What the numbers of a shape say of its rectangle.
-use Prim.Native.Nat.{ℕ, _+_, _*_, _-_, _≤_, _<_}
+use Prim.Native.Nat.{ℕ, _+_, _*_, _-_, _≤_}
 use mathlib.Core.Bool.{true, _&&_}
 use mathlib.Core.List.{List}
-use mathlib.Core.Path.{_≡_, refl, ap, sym, _∙_}
+use mathlib.Core.Path.{_≡_, refl, ap, _∙_}
 use native.Mathlib.Omega.{arith}
 use lib.Dec.{eqb}
 use Rattle.wcdma_shape.specs.declared.Shape.{Shape}
 use Rattle.wcdma_shape.specs.Post.{ShapeOf}
-use Rattle.wcdma_shape.specs.Rectangle.{rows, prime, cols, cells}
+use Rattle.wcdma_shape.specs.Rectangle.{rows, prime}
 use Rattle.wcdma_shape.specs.Shape.{shape-total}
 use Rattle.wcdma.specs.Turbo.{full}
 use Rattle.wcdma.specs.Full.{full-cols, last-column, last-row}

@@ -5,9 +5,7 @@ use mathlib.Core.Bool.{Bool, true, false, cond}
 use mathlib.Core.List.{List, [], _++_}
 use mathlib.Core.Path.{_≡_, refl, ap, sym, _∙_, fun-ext}
 use native.Mathlib.Decide.{ℕ-discrete}
-use native.Mathlib.Nat.{mul-comm}
 use native.Mathlib.Omega.{arith}
-use lib.Arith.{digits-lt}
 use lib.ListN.{length, drop}
 use lib.Seq.{drop-length}
 use borrow.Author.Tests.{eq-eqb, ne-eqb, lt-ltb}
@@ -16,11 +14,11 @@ use Rattle.laws.specs.Bare.{Bare, wrote-bare, steps-bare}
 use Rattle.laws.specs.Once.{inside}
 use Rattle.laws.specs.Run.{run, length-run}
 use Rattle.laws.specs.Walk.{Rule, walkList, walkCells, walkSlice}
-use Rattle.wcdma_shape.specs.Rectangle.{rows, prime, cols, cells}
-use Rattle.wcdma_shape.specs.Shape.{rows-pos, prime-big}
+use Rattle.wcdma_shape.specs.Rectangle.{rows, prime, cells}
+use Rattle.wcdma_shape.specs.Shape.{rows-pos}
 use Rattle.wcdma.specs.Turbo.{full, address, turboRule}
 use Rattle.wcdma.specs.Laid.{plain, plainRule}
-use Rattle.wcdma.specs.Full.{full-cells, full-cols}
+use Rattle.wcdma.specs.Full.{full-cells, last-column}
 use Rattle.wcdma.specs.Touched.{untouched, at-first, at-last, elsewhere}
 use Rattle.wcdma.specs.Law.{address-lt, plain-lt}
 use Rattle.wcdma_full.specs.Put.{but, putAt, put-run}
@@ -61,9 +59,7 @@ module _ (k : ℕ) where
 
     -- the first cell of the last column is a cell
     last-inside : prime k * rows k < cells k
-    unfolding cells
-    last-inside =
-        omega (arith, digits-lt {q = prime k} {m = cols k} {r = 0} {c = rows k} (omega (arith, full-cols k f)) (rows-pos k), mul-comm (cols k) (rows k))
+    last-inside = omega (arith, last-column k f, full-cells k f, rows-pos k)
 
     module _ (cell : ℕ) (within : cell ≤ cells k) (old : List ℕ) where
       -- no padding: as many addresses as there are cells and room
