@@ -1,4 +1,4 @@
-/* Walks and block moves in plain C, dividing and stepping: what a competent engineer writes from document 01. */
+/* Walks and block moves in plain C, dividing and stepping: what a competent engineer writes from document 01 and change request 1. */
 #include "plain.h"
 
 static uint32_t least(uint32_t a, uint32_t b) { return a < b ? a : b; }

@@ -1,4 +1,4 @@
-/* Tests every call of interleaver.h: document 01's starred addresses, each refusal that can be reached, out-parameters and buffers left alone by
+/* Tests every call of interleaver.h: the starred addresses of the documents, each refusal that can be reached, out-parameters and buffers left alone by
    a refused call, walks and streams cut into parts, and the bits of floats. Prints a line for each failure, and the sum. This file: the test of a
    set, and one address. */
 #include "test.h"
@@ -57,8 +57,8 @@ static void addresses(void) {
     static const struct {
         interleaver_set set;
         uint32_t t, l;
-    } starred_l[] = {{{4, 4, 64}, 4, 17}, {{4, 4, 64}, 5, 1}, {{4, 4, 64}, 6, 49}, {{4, 4, 64}, 7, 33}, {{4, 6, 96}, 6, 17}, {{5, 1, 40}, 0, 33},
-        {{5, 1, 40}, 9, 5}, {{5, 1, 40}, 35, 39}, {{5, 1, 40}, 39, 7}, {{5, 1, 41}, 5, 36}};
+    } starred_l[] = {{{4, 4, 64}, 4, 17}, {{4, 4, 64}, 5, 1}, {{4, 4, 64}, 6, 49}, {{4, 4, 64}, 7, 33}, {{4, 6, 96}, 6, 17}, {{5, 1, 40}, 0, 39},
+        {{5, 1, 40}, 9, 5}, {{5, 1, 40}, 35, 33}, {{5, 1, 40}, 39, 7}, {{5, 1, 41}, 5, 36}};
     uint32_t address = 77;
     unsigned i;
     for (i = 0; i < sizeof starred_m / sizeof starred_m[0]; i++) {

@@ -27,7 +27,7 @@ fn a_refusal_is_its_number() {
 }
 
 #[test]
-fn addresses_of_document_01() {
+fn starred_addresses() {
     let set = Set::new(3, 4, 192).unwrap();
     assert_eq!([0, 1, 16, 17, 191].map(|k| set.target(k).unwrap()), [0, 13, 1, 12, 190]);
     let set = Set::new(4, 4, 64).unwrap();

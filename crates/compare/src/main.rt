@@ -1,6 +1,7 @@
 // Compares every whole list with a second computation of it, which divides at each address and shares no function with the walk: all sets
 // of profiles 1 to 4 and every K, whole and in slices; and for a dozen sets shorter slices, blocks of bytes and single addresses. Each
-// comparison is tried on a list that is wrong on purpose as well, and has to count differences there.
+// comparison is tried on a list that is wrong on purpose as well, and has to count differences there; and every K on its list without the exchange of
+// full rectangles, to count the sizes that the exchange touches.
 mod chosen;
 mod count;
 mod moves;

@@ -2,6 +2,7 @@ pub mod Outcome
 pub mod Digits
 pub mod Sized
 pub mod Run
+pub mod Put
 pub mod Members
 pub mod Fill
 pub mod Lanes

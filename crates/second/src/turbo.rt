@@ -229,7 +229,7 @@ fn taken(g: Grid, row: usize, j: usize) -> usize {
     j
 }
 
-// T(i)·C + u of a cell, the cells with j outer and i inner.
+// T(i)·C + u of the column that a cell takes, the cells with j outer and i inner.
 pub(super) fn address(g: Grid, table: &[u16], cell: usize) -> usize {
     let i = rest(cell, g.r);
     let j = over(cell, g.r);

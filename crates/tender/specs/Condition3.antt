@@ -47,7 +47,7 @@ rule-carrier s ne =
     let e = rule-is s (other-carrier s ne) in
     (ap (λ (r : Rule). r .total) e, ap (λ (r : Rule). r .address) e)
 
--- .. profile 5: the cells of the rectangle, R·C, and the address of a cell is T(i)·C + u ..
+-- .. profile 5: the cells of the rectangle, R·C, and the address of a cell is T(i)·C + u, with u of the column that it takes ..
 pub rule-turbo : (s : Set) → s .profile ≡ 5 → (ruleIn Interleaver s .total ≡ cells (s .n)) × (ruleIn Interleaver s .address ≡ address (s .n))
 rule-turbo s p =
     let e = rule-is s (five-turbo s p) in

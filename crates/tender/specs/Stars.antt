@@ -1,4 +1,4 @@
--- The starred cases of document 01, "Checked by hand", K 40 with the last five addresses of change request 1 and K 200 beside it, in one proved table,
+-- The starred cases of document 01, "Checked by hand", K 40 as change request 1 mends it and K 200 beside it, in one proved table,
 -- over the definitions that the public contracts cite, and a second table of ours for what these leave out. A row says a question, a set, an
 -- argument and the numbers that are expected. `refl` at its end: the definitions compute to those numbers.
 use Prim.Native.Nat.{ℕ, _-_, _≤_}
@@ -171,6 +171,12 @@ ours =
     ∷ row C (turbo 199) 0 (20 ∷ []) refl
     ∷ row begins (turbo 199) 10 (181 ∷ 161 ∷ 141 ∷ 121 ∷ 101 ∷ 81 ∷ 61 ∷ 41 ∷ 21 ∷ 1 ∷ []) refl
     ∷ row ends (turbo 199) 9 (179 ∷ 159 ∷ 139 ∷ 119 ∷ 99 ∷ 79 ∷ 59 ∷ 39 ∷ 19 ∷ []) refl
+    -- K 240, full, of twenty rows: its first five addresses and its last column
+    ∷ row R (turbo 240) 0 (20 ∷ []) refl
+    ∷ row p (turbo 240) 0 (11 ∷ []) refl
+    ∷ row C (turbo 240) 0 (12 ∷ []) refl
+    ∷ row begins (turbo 240) 5 (239 ∷ 109 ∷ 169 ∷ 49 ∷ 1 ∷ []) refl
+    ∷ row ends (turbo 240) 20 (229 ∷ 119 ∷ 179 ∷ 59 ∷ 11 ∷ 35 ∷ 71 ∷ 95 ∷ 155 ∷ 227 ∷ 131 ∷ 107 ∷ 167 ∷ 215 ∷ 47 ∷ 23 ∷ 203 ∷ 83 ∷ 191 ∷ 143 ∷ []) refl
     -- K 530, the last of R 10, and 531, the first of R 20 above it
     ∷ row R (turbo 530) 0 (10 ∷ []) refl
     ∷ row p (turbo 530) 0 (53 ∷ []) refl

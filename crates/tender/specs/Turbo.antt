@@ -5,12 +5,12 @@ use mathlib.Core.Path.{_≡_}
 use lib.ListN.{length}
 use Rattle.laws.specs.Perm.{Perm}
 use Rattle.laws.specs.Once.{count}
-use Rattle.wcdma_shape.specs.Rectangle.{rows, prime, cells}
+use Rattle.wcdma_shape.specs.Rectangle.{rows, prime, cols, cells}
 use Rattle.wcdma_shape.specs.Orders.{rowAt}
-use Rattle.wcdma.specs.Turbo.{exchanged, origin, address, addresses, turboL, turboM, padCells}
-use Rattle.wcdma.specs.Full as whole
+use Rattle.wcdma.specs.Turbo.{origin, address, addresses, turboL, turboM, padCells}
+use Rattle.wcdma.specs.Full as exchange
 use Rattle.wcdma.specs.Law as law
-use Rattle.wcdma.specs.Touched.{Full, fullSizes}
+use Rattle.wcdma.specs.Touched.{fullSizes}
 use Rattle.wcdma.specs.Touched as touched
 use Rattle.wcdma.specs.Pads as pads
 
@@ -31,19 +31,23 @@ module _ (k : ℕ) (low : 40 ≤ k) (high : k ≤ 5114) where
 pub padding-reached : padCells 2281 ≡ 239
 padding-reached = pads.padding-most
 
--- the address of row i of column j
-module _ (k i j : ℕ) (row : i < rows k) where
+-- the address of row i of column j; `origin k i x` is T(i)·C + U(x)
+module _ (k i : ℕ) (row : i < rows k) where
   -- where C = p + 1 and K = R·C, the row with T(i) = R - 1 has U(p) at j = 0, U(0) at j = p, and U(j) at every other j
-  pub exchange-made : Full k → rowAt k i ≡ rows k - 1 → address k (j * rows k + i) ≡ origin k i (exchanged 0 (prime k) j)
-  exchange-made = touched.exchange-made k i j row
+  pub exchange-made : cols k ≡ prime k + 1 → k ≡ rows k * cols k → rowAt k i ≡ rows k - 1
+      → (address k (0 * rows k + i) ≡ origin k i (prime k))
+      × (address k (prime k * rows k + i) ≡ origin k i 0)
+      × ((j : ℕ) → (j ≡ 0 → ⊥) → (j ≡ prime k → ⊥) → address k (j * rows k + i) ≡ origin k i j)
+  exchange-made = touched.exchange-made k i row
 
   -- in any other row, and in any other rectangle, U(j) stands at j
-  pub exchange-left : (Full k → rowAt k i ≡ rows k - 1 → ⊥) → address k (j * rows k + i) ≡ origin k i j
-  exchange-left = touched.exchange-left k i j row
+  pub exchange-left : (cols k ≡ prime k + 1 → k ≡ rows k * cols k → rowAt k i ≡ rows k - 1 → ⊥)
+      → (j : ℕ) → address k (j * rows k + i) ≡ origin k i j
+  exchange-left = touched.exchange-left k i row
 
 -- that row is row 0, in every row order, and no other is
 pub exchange-row : (k : ℕ) → (rowAt k 0 ≡ rows k - 1) × ((i : ℕ) → i < rows k → rowAt k i ≡ rows k - 1 → i ≡ 0)
-exchange-row k = (whole.first-row k, law.first-alone k)
+exchange-row k = (exchange.first-row k, law.first-alone k)
 
 -- 59 of the sizes have such a rectangle
 pub exchange-sizes : length fullSizes ≡ 59

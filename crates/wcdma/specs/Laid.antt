@@ -1,5 +1,5 @@
 -- The rows as they are laid out for a walk: where each begins, by how much its exponent falls, and the exponents where the walk
--- stands; and the addresses that the walk makes of them. Rests on the shape and the set-up. These are definitions.
+-- stands; and the addresses that the walk makes of them. Rests on Turbo, the shape and the set-up. These are definitions.
 use Prim.Native.Nat.{ℕ, _+_, _*_, _-_, _/_, _%_, _<_}
 use mathlib.Core.Bool.{cond}
 use mathlib.Core.List.{List}

@@ -8,7 +8,6 @@ use native.Mathlib.Decide.{ℕ-discrete}
 use native.Mathlib.Nat.{add-zero, zero-mul, div-add-mod'}
 use native.Mathlib.Omega.{arith}
 use lib.Arith.{digits-div, digits-mod}
-use lib.Dec.{eqb}
 use lib.ListN.{length}
 use borrow.Author.Tests.{eq-eqb, ne-eqb}
 use Rattle.laws.specs.Keep.{keep}
@@ -28,37 +27,41 @@ pub sizes-touched : length fullSizes ≡ 59
 unfolding fullSizes keep full rows primes firstPrime prime colsOf cols cells
 sizes-touched = refl
 
--- C = p + 1 and K = R·C
-abbrev pub Full : ℕ → Type 0
-Full k = (cols k ≡ prime k + 1) × (k ≡ rows k * cols k)
-
 module _ (k : ℕ) where
-  full-is : Full k → full k ≡ true
+  full-is : cols k ≡ prime k + 1 → k ≡ rows k * cols k → full k ≡ true
   unfolding full cells
-  full-is h = rw (eq-eqb (cols k) (prime k + 1) (h .0), eq-eqb k (rows k * cols k) (h .1))
+  full-is c t = rw (eq-eqb (cols k) (prime k + 1) c, eq-eqb k (rows k * cols k) t)
 
-  is-full : full k ≡ true → Full k
-  unfolding cells
-  is-full f = (full-cols k f, full-cells k f)
+  -- p changes places with 0
+  exchanged-p : exchanged 0 (prime k) (prime k) ≡ 0
+  exchanged-p = rw (ne-eqb (prime k) 0 (λ e. omega (arith, prime-big k)), eq-eqb (prime k) (prime k) refl)
 
   -- the address of row i of column j
   address-at : (i j : ℕ) → i < rows k → address k (j * rows k + i) ≡ origin k i (column k i j)
   unfolding address
   address-at i j h = ap₂ (λ (x y : ℕ). origin k x (column k x y)) (digits-mod j h) (digits-div j h)
 
-  module _ (i j : ℕ) (row : i < rows k) where
+  module _ (i : ℕ) (row : i < rows k) where
     -- where C = p + 1 and K = R·C, columns 0 and p change places in the row with T(i) = R - 1
-    pub exchange-made : Full k → rowAt k i ≡ rows k - 1 → address k (j * rows k + i) ≡ origin k i (exchanged 0 (prime k) j)
-    exchange-made h t =
-        address-at i j row
-        ∙ ap (origin k i) (subst (λ (x : ℕ). column k x j ≡ exchanged 0 (prime k) j) (sym (first-alone k i row t)) (row-takes k (full-is h) j))
+    pub exchange-made : cols k ≡ prime k + 1 → k ≡ rows k * cols k → rowAt k i ≡ rows k - 1
+        → (address k (0 * rows k + i) ≡ origin k i (prime k))
+        × (address k (prime k * rows k + i) ≡ origin k i 0)
+        × ((j : ℕ) → (j ≡ 0 → ⊥) → (j ≡ prime k → ⊥) → address k (j * rows k + i) ≡ origin k i j)
+    exchange-made c t r = (at 0 refl, at (prime k) exchanged-p, λ j a b. at j (rw (ne-eqb j 0 a, ne-eqb j (prime k) b)))
+      where
+        at : (j : ℕ) {x : ℕ} → exchanged 0 (prime k) j ≡ x → address k (j * rows k + i) ≡ origin k i x
+        at j {x} e =
+            address-at i j row
+            ∙ ap (origin k i) (subst (λ (y : ℕ). column k y j ≡ x) (sym (first-alone k i row r)) (row-takes k (full-is c t) j ∙ e))
 
     -- and nowhere else
-    pub exchange-left : (Full k → rowAt k i ≡ rows k - 1 → ⊥) → address k (j * rows k + i) ≡ origin k i j
-    exchange-left h = address-at i j row ∙ ap (origin k i) (go (full k) refl)
+    pub exchange-left : (cols k ≡ prime k + 1 → k ≡ rows k * cols k → rowAt k i ≡ rows k - 1 → ⊥)
+        → (j : ℕ) → address k (j * rows k + i) ≡ origin k i j
+    unfolding cells
+    exchange-left h j = address-at i j row ∙ ap (origin k i) (go (full k) refl)
       where
         go : (b : Bool) → full k ≡ b → column k i j ≡ j
-        go true f = row-keeps k f i j (λ e. h (is-full f) (ap (rowAt k) e ∙ first-row k))
+        go true f = row-keeps k f i j (λ e. h (full-cols k f) (full-cells k f) (ap (rowAt k) e ∙ first-row k))
         go false f = all-keep k f i j
 
   -- where the column that a cell takes is its own
@@ -80,10 +83,7 @@ module _ (k : ℕ) where
     pub at-last : address k (prime k * rows k) ≡ k - prime k
     at-last =
         ap (address k) (sym (add-zero _)) ∙ address-at 0 (prime k) (rows-pos k)
-        ∙ ap (origin k 0) (row-takes k f (prime k) ∙ last (ne-eqb (prime k) 0 (λ e. omega (arith, prime-big k)))) ∙ origin-first k f
-      where
-        last : eqb (prime k) 0 ≡ false → exchanged 0 (prime k) (prime k) ≡ 0
-        last e = rw (e, eq-eqb (prime k) (prime k) refl)
+        ∙ ap (origin k 0) (row-takes k f (prime k) ∙ exchanged-p) ∙ origin-first k f
 
     -- no other cell
     pub elsewhere : (n : ℕ) → (n ≡ 0 → ⊥) → (n ≡ prime k * rows k → ⊥) → address k n ≡ plain k n

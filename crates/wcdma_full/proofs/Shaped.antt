@@ -5,13 +5,13 @@ use mathlib.Core.List.{List}
 use mathlib.Core.Path.{_≡_, refl, ap, _∙_}
 use native.Mathlib.Omega.{arith}
 use lib.Dec.{eqb}
+use Rattle.laws.specs.Put.{putAt}
 use Rattle.wcdma_shape.specs.declared.Shape.{Shape}
 use Rattle.wcdma_shape.specs.Post.{ShapeOf}
 use Rattle.wcdma_shape.specs.Rectangle.{rows, prime}
 use Rattle.wcdma_shape.specs.Shape.{shape-total}
 use Rattle.wcdma.specs.Turbo.{full}
 use Rattle.wcdma.specs.Full.{full-cols, last-column, last-row}
-use Rattle.wcdma_full.specs.Put.{putAt}
 use Rattle.wcdma_full.specs.Exchange.{exchangeIn}
 
 module _ (z : Shape) (s : ShapeOf z) where

@@ -1,5 +1,5 @@
 -- The exchange of a full rectangle, made in the slice behind the walk: what it leaves, and that this is the slice of a walk that goes by the
--- exchanged columns. Rests on Put, and on Full, Touched and Law of crate wcdma.
+-- exchanged columns. Rests on Full, Touched and Law of crate wcdma, and on Put of laws.
 use Prim.Native.Nat.{ℕ, min, _+_, _*_, _-_, _≤_, _<_}
 use mathlib.Core.Bool.{Bool, true, false, cond}
 use mathlib.Core.List.{List, [], _++_}
@@ -12,6 +12,7 @@ use borrow.Author.Tests.{eq-eqb, ne-eqb, lt-ltb}
 use Rattle.laws.specs.Keep.{wrote, steps}
 use Rattle.laws.specs.Bare.{Bare, wrote-bare, steps-bare}
 use Rattle.laws.specs.Once.{inside}
+use Rattle.laws.specs.Put.{but, putAt, put-run}
 use Rattle.laws.specs.Run.{run, length-run}
 use Rattle.laws.specs.Walk.{Rule, walkList, walkCells, walkSlice}
 use Rattle.wcdma_shape.specs.Rectangle.{rows, prime, cells}
@@ -21,7 +22,6 @@ use Rattle.wcdma.specs.Laid.{plain, plainRule}
 use Rattle.wcdma.specs.Full.{full-cells, last-column}
 use Rattle.wcdma.specs.Touched.{untouched, at-first, at-last, elsewhere}
 use Rattle.wcdma.specs.Law.{address-lt, plain-lt}
-use Rattle.wcdma_full.specs.Put.{but, putAt, put-run}
 
 -- what it makes of a slice that a walk from a cell on filled: in a full rectangle K - 1 stands at cell 0, and K - p at the first cell of column p
 unfoldable pub exchangeIn : ℕ → ℕ → List ℕ → List ℕ

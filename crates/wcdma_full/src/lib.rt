@@ -6,10 +6,10 @@ ghost use mathlib.Core.Path.{_≡_};
 ghost use Prim.Native.Nat.{_<_};
 ghost use Rattle.wcdma_shape.specs.Post.{ShapeOf};
 ghost use Rattle.wcdma.specs.Turbo.{full};
-ghost use Rattle.wcdma_full.specs.Put.{putAt};
+ghost use Rattle.laws.specs.Put.{putAt};
 ghost use Rattle.wcdma_full.specs.Exchange.{exchangeIn};
 
-// Whether the rectangle is full. A walk asks before its loop, which then has to keep nothing for the exchange.
+// Whether the rectangle is full. A walk asks before its loop, so that the loop need not keep p for it.
 pub fn is_full(shape: Shape) -> bool
     requires { ⌜ ShapeOf shape ⌝ }
     ensures { λ r. ⌜ r ≡ full (shape .k) ⌝ }

@@ -1,4 +1,4 @@
--- What the choice of R, p and C says: their bounds, and that the cells suffice. Rests on Rectangle.
+-- What the choice of R, p and C says: their bounds, R·C of a shape, and that the cells suffice. Rests on Rectangle and Post.
 use Prim.Native.Nat.{ℕ, _+_, _*_, _-_, _≤_, _<_}
 use mathlib.Core.Bool.{Bool, true, false, cond, _&&_, _||_, or-true, or-false}
 use mathlib.Core.Logic.{⊎-elim}

@@ -1,4 +1,5 @@
--- One entry of a slice written over, that a walk without padding filled: the slice of the walk along the rule with that entry. Over any element.
+-- One entry written over in a slice that a walk without padding has filled: this is the slice of a walk along the rule with that entry. Over any
+-- element.
 use Prim.Native.Nat.{ℕ, zero, suc, _+_, _-_, _≤_, _<_}
 use mathlib.Core.Bool.{Bool, true, false, cond}
 use mathlib.Core.List.{List, [], _∷_, _++_}
@@ -8,8 +9,7 @@ use native.Mathlib.Omega.{arith}
 use lib.Dec.{leb, ltb, eqb}
 use lib.ListN.{set}
 use borrow.Author.Tests.{ltb-true, ltb-false, leb-true, le-leb, lt-leb, eq-eqb, ne-eqb}
 use Rattle.laws.specs.Run.{run}
-use Rattle.wcdma_shape.specs.Shape.{choice}
 
 module _ {A : Type 0} where
   -- the rule f with v at x
@@ -23,7 +23,11 @@ module _ {A : Type 0} where
   module _ (f : ℕ → A) (x : ℕ) (v : A) where
     -- m entries from cell c on; the slice goes on behind them only where x is before its end
     pub put-run : (c m : ℕ) (rest : List A) → (c + m ≤ x → rest ≡ []) → putAt c x v (run f c m ++ rest) ≡ run (but f x v) c m ++ rest
-    put-run c zero rest h = choice (λ l. l ≡ rest) (leb c x) _ _ (λ e. rw (h (omega (arith, leb-true c x e)))) (λ e. refl)
+    put-run c zero rest h = none (leb c x) refl
+      where
+        none : (b : Bool) → leb c x ≡ b → cond b (set rest (x - c) v) rest ≡ rest
+        none true e = rw (h (omega (arith, leb-true c x e)))
+        none false e = refl
     put-run c (suc m) rest h = go (ℕ-discrete c x) (put-run (suc c) m rest (λ l. h (omega arith)))
       where
         later : List A
