@@ -104,14 +104,14 @@ pub fn fill(
     let mut n = 0;
     while here < total {
         let room = out.len() - n;
-        if room == 0 {
-            break;
-        }
         if (i == 0) & (r <= room) {
             n = one_column(shape, j, s, base, fall, e, out, n);
             here += r;
             j += 1;
         } else {
+            if room == 0 {
+                break;
+            }
             n = one_cell(shape, i, j, s, base, fall, e, out, n);
             here += 1;
             i += 1;

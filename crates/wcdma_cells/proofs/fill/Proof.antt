@@ -25,30 +25,33 @@ Inv-loop shape cell row column s base fall e₀ out₀ r total i₀ j₀ here₀
 abbrev μ-loop : tie.MeasureT-loop
 μ-loop shape cell row column s base fall e₀ out₀ r total i₀ j₀ here₀ n₀ e out i j here n = cells (shape .k) - here
 
--- the place of a turn of the loop: within the block, with room left
-abbrev start : tie.Else1 Inv-loop μ-loop → tie.Start Inv-loop μ-loop
-start c = c .before .before .before .before .before
+-- the place of a turn of the loop, within the block
+abbrev start : tie.In-loop Inv-loop μ-loop → tie.Start Inv-loop μ-loop
+start c = c .before .before .before .before
 
-abbrev at : tie.Else1 Inv-loop μ-loop → tie.At-loop Inv-loop μ-loop
-at c = c .before .before
+abbrev at : tie.In-loop Inv-loop μ-loop → tie.At-loop Inv-loop μ-loop
+at c = c .before
 
-cell-inside : (c : tie.Else1 Inv-loop μ-loop) → at c .loop .here < cells (start c .args .shape .k)
+cell-inside : (c : tie.In-loop Inv-loop μ-loop) → at c .loop .here < cells (start c .args .shape .k)
 unfolding cells
-cell-inside c = let s = start c .pre .shape in rw (sym (s .rows-is), sym (s .cols-is)) (c .before .loop-test .taken)
+cell-inside c = let s = start c .pre .shape in rw (sym (s .rows-is), sym (s .cols-is)) (c .loop-test .taken)
 
-column-inside : (c : tie.Else1 Inv-loop μ-loop) → at c .loop .j < cols (start c .args .shape .k)
+column-inside : (c : tie.In-loop Inv-loop μ-loop) → at c .loop .j < cols (start c .args .shape .k)
 column-inside c = place-column (start c .args .shape .k) (at c .loop .inv .0) (cell-inside c)
 
-room-left : (c : tie.Else1 Inv-loop μ-loop) → at c .loop .n < length (at c .loop .out)
-room-left c = let h : ¬ (length (at c .loop .out) - at c .loop .n ≡ 0) = c .if1 .left in omega arith
+-- room for a cell; and at the first row, room for a column
+room-left : (c : tie.Else2 Inv-loop μ-loop) → at (c .before .before) .loop .n < length (at (c .before .before) .loop .out)
+room-left c =
+    let l = at (c .before .before) .loop in
+    let h : ¬ (length (l .out) - l .n ≡ 0) = c .if2 .left in omega arith
 
-at-top : (c : tie.Then2 Inv-loop μ-loop) → at (c .before) .loop .i ≡ 0
-at-top c = eqb-true _ _ (both (eqb (at (c .before) .loop .i) 0) _ (c .if2 .taken) .0)
+at-top : (c : tie.Then1 Inv-loop μ-loop) → at (c .before) .loop .i ≡ 0
+at-top c = eqb-true _ _ (both (eqb (at (c .before) .loop .i) 0) _ (c .if1 .taken) .0)
 
-col-room : (c : tie.Then2 Inv-loop μ-loop) → start (c .before) .args .shape .r ≤ length (at (c .before) .loop .out) - at (c .before) .loop .n
+col-room : (c : tie.Then1 Inv-loop μ-loop) → start (c .before) .args .shape .r ≤ length (at (c .before) .loop .out) - at (c .before) .loop .n
 col-room c =
     leb-true (start (c .before) .args .shape .r) (length (at (c .before) .loop .out) - at (c .before) .loop .n)
-    (both (eqb (at (c .before) .loop .i) 0) _ (c .if2 .taken) .1)
+    (both (eqb (at (c .before) .loop .i) 0) _ (c .if1 .taken) .1)
 
 mul-total : tie.Need-mul-total Inv-loop μ-loop
 mul-total c =
@@ -67,7 +70,7 @@ one-column-requires c κs =
     let b = c .before .before .before in
     let z = start b .pre in
     let l = at b .loop in
-    record { shape = z .shape; tables = z .tables; column = column-inside b; exponents = exponents-to (at-top (c .before .before)) (l .inv .1); room = omega (arith, col-room (c .before .before), room-left b) }
+    record { shape = z .shape; tables = z .tables; column = column-inside b; exponents = exponents-to (at-top (c .before .before)) (l .inv .1); room = omega (arith, col-room (c .before .before), z .shape .rows-is, rows-pos (start b .args .shape .k)) }
 
 add-here : tie.Need-add-here Inv-loop μ-loop
 add-here c =
@@ -95,39 +98,39 @@ loop-again c =
 
 one-cell-requires : tie.Need-one-cell-requires Inv-loop μ-loop
 one-cell-requires c κs =
-    let b = c .before .before .before in
+    let b = c .before .before .before .before in
     let z = start b .pre in
     let l = at b .loop in
-    record { shape = z .shape; tables = z .tables; row = l .inv .0 .row; column = column-inside b; exponents = l .inv .1; room = room-left b }
+    record { shape = z .shape; tables = z .tables; row = l .inv .0 .row; column = column-inside b; exponents = l .inv .1; room = room-left (c .before .before) }
 
 add-here-2 : tie.Need-add-here-2 Inv-loop μ-loop
-add-here-2 c = omega (arith, cell-inside (c .before .before .before .before .before .before), cells-le (start (c .before .before .before .before .before .before) .args .shape .k))
+add-here-2 c = omega (arith, cell-inside (c .before .before .before .before .before .before .before), cells-le (start (c .before .before .before .before .before .before .before) .args .shape .k))
 
 add-i : tie.Need-add-i Inv-loop μ-loop
-add-i c = omega (arith, at (c .before .before .before .before .before .before) .loop .inv .0 .row, rows-le (start (c .before .before .before .before .before .before) .args .shape .k))
+add-i c = omega (arith, at (c .before .before .before .before .before .before .before) .loop .inv .0 .row, rows-le (start (c .before .before .before .before .before .before .before) .args .shape .k))
 
 add-j-2 : tie.Need-add-j-2 Inv-loop μ-loop
 add-j-2 c =
-    let b = c .before .before .before .before .before .before .before in
+    let b = c .before .before .before .before .before .before .before .before in
     omega (arith, column-le (start b .args .shape .k) (at b .loop .inv .0), cell-inside b, cells-le (start b .args .shape .k))
 
 loop-less-2 : tie.Need-loop-less-2 Inv-loop μ-loop
-loop-less-2 c = omega (arith, cell-inside (c .before .before .before .before .before .before .before))
+loop-less-2 c = omega (arith, cell-inside (c .before .before .before .before .before .before .before .before))
 
 loop-again-2 : tie.Need-loop-again-2 Inv-loop μ-loop
 loop-again-2 c =
-    let b = c .before .before .before .before .before .before .before in
+    let b = c .before .before .before .before .before .before .before .before in
     let l = at b .loop in
     let f = c .before .before .before .one-cell .ensures in
     let e = c .if3 .taken ∙ start b .pre .shape .rows-is in
     (place-over _ (l .inv .0) e, exponents-top _ (rw e at (f .exponents)), cell-on (l .inv .0) (f .goes) (l .inv .2))
 
 loop-less-3 : tie.Need-loop-less-3 Inv-loop μ-loop
-loop-less-3 c = omega (arith, cell-inside (c .before .before .before .before .before .before .before))
+loop-less-3 c = omega (arith, cell-inside (c .before .before .before .before .before .before .before .before))
 
 loop-again-3 : tie.Need-loop-again-3 Inv-loop μ-loop
 loop-again-3 c =
-    let b = c .before .before .before .before .before .before .before in
+    let b = c .before .before .before .before .before .before .before .before in
     let l = at b .loop in
     let f = c .before .before .before .one-cell .ensures in
     (place-down _ (l .inv .0) (λ e. c .if3 .left (e ∙ sym (start b .pre .shape .rows-is))), f .exponents, cell-on (l .inv .0) (f .goes) (l .inv .2))
@@ -145,7 +148,7 @@ returns c =
     let a = c .before .before .before .before .args .shape in
     let s = c .before .before .before .before .pre .shape in
     let t : a .r * a .c ≡ cells (a .k) = rw (s .rows-is, s .cols-is) in
-    let d = ended _ _ _ _ _ (l .inv .2) (⊎-elim (λ w. inl (omega (arith, w .left))) (λ w. inr (omega (arith, w .1 .taken, l .inv .2 .size))) (c .loop-test .came)) in
+    let d = ended _ _ _ _ _ (l .inv .2) (⊎-elim (λ w. inl (omega (arith, w .left))) (λ w. inr (omega (arith, w .2 .taken, l .inv .2 .size))) (c .loop-test .came)) in
     record { answer = ap₂ Went (d .number) (omega (arith, d .cell)); slice = d .whole ∙ rw (d .number) }
 
 pub fill-spec : {M : Type 1} → statement M
