@@ -21,7 +21,7 @@ module _ {A : Type 0} where
   putAt c x v l = cond (leb c x) (set l (x - c) v) l
 
   module _ (f : ℕ → A) (x : ℕ) (v : A) where
-    -- m entries from cell c on; the slice goes on behind them only where x is before its end
+    -- m entries from cell c on, and the rest of the slice, which is empty where x lies behind them
     pub put-run : (c m : ℕ) (rest : List A) → (c + m ≤ x → rest ≡ []) → putAt c x v (run f c m ++ rest) ≡ run (but f x v) c m ++ rest
     put-run c zero rest h = none (leb c x) refl
       where

@@ -49,6 +49,7 @@ module _ (k : ℕ) where
     }
 
   module _ (f : full k ≡ true) where
+    -- the addresses are the plain ones but in two cells
     two-cells : but (but (plain k) 0 (k - 1)) (prime k * rows k) (k - prime k) ≡ address k
     two-cells = fun-ext (λ (n : ℕ). go n (ℕ-discrete n (prime k * rows k)) (ℕ-discrete n 0))
       where
@@ -84,7 +85,7 @@ module _ (k : ℕ) where
         left : wrote a (inside k) cell (cells k - cell) (length old) ++ drop (length (wrote a (inside k) cell (cells k - cell) (length old))) old ≡ run a cell many ++ drop many old
         left = rw (number, list)
 
-      -- where a cell lies behind the slice, it ends with its last address
+      -- where a cell lies behind the last address that is written, the slice ends with that
       ends : (x : ℕ) → x < cells k → cell + many ≤ x → drop many old ≡ []
       unfolding many
       ends x h l = ap (λ (n : ℕ). drop n old) (let e : min (length old) (cells k - cell) ≡ length old = omega arith in e) ∙ drop-length old
