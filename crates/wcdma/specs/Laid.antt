@@ -30,6 +30,10 @@ pub record Rows (k : ℕ) (base fall : List ℕ) : Type 0 where
 unfoldable pub plain : ℕ → ℕ → ℕ
 plain k cell = origin k (cell % rows k) (cell / rows k)
 
--- the rule of a block with those addresses, the exchange of a full rectangle left out. (A walk reads a rule's total and addresses, and nothing else of it.)
+-- the rule of a block with other addresses. (A walk reads a rule's total and addresses, and nothing else of it.)
+abbrev pub ruleBy : ℕ → (ℕ → ℕ) → Rule
+ruleBy k a = let r = turboRule k in record { total = r .total; address = a; l = r .l; m = r .m; fails = r .fails }
+
+-- with those that the walk makes, the exchange of a full rectangle left out
 abbrev pub plainRule : ℕ → Rule
-plainRule k = let r = turboRule k in record { total = r .total; address = plain k; l = r .l; m = r .m; fails = r .fails }
+plainRule k = ruleBy k (plain k)

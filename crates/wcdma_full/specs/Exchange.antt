@@ -18,7 +18,7 @@ use Rattle.laws.specs.Walk.{Rule, walkList, walkCells, walkSlice}
 use Rattle.wcdma_shape.specs.Rectangle.{rows, prime, cells}
 use Rattle.wcdma_shape.specs.Shape.{rows-pos}
 use Rattle.wcdma.specs.Turbo.{full, address, turboRule}
-use Rattle.wcdma.specs.Laid.{plain, plainRule}
+use Rattle.wcdma.specs.Laid.{plain, ruleBy, plainRule}
 use Rattle.wcdma.specs.Full.{full-cells, last-column}
 use Rattle.wcdma.specs.Touched.{untouched, at-first, at-last, elsewhere}
 use Rattle.wcdma.specs.Law.{address-lt, plain-lt}
@@ -36,9 +36,7 @@ pub record Alike (k cell : ℕ) (old : List ℕ) : Type 0 where
 module _ (k : ℕ) where
   module _ (f : full k ≡ false) where
     same : plainRule k ≡ turboRule k
-    same =
-        ap (λ (a : ℕ → ℕ). record { total = cells k; address = a; l = turboRule k .l; m = turboRule k .m; fails = turboRule k .fails })
-        (fun-ext (λ (n : ℕ). sym (untouched k f n)))
+    same = ap (ruleBy k) (fun-ext (λ (n : ℕ). sym (untouched k f n)))
 
     not-full : (cell : ℕ) (old : List ℕ) → Alike k cell old
     unfolding exchangeIn
