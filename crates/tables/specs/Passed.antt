@@ -7,7 +7,7 @@ use lib.Dec.{eqb}
 use lib.ListN.{length}
 use borrow.Author.Tests.{eq-eqb, ne-eqb, eqb-true, not-false}
 use Rattle.laws.specs.declared.Way.the-variants.{Interleaver}
-use Rattle.laws.specs.Outcome.{done, refused, clear, first, after, clear-then, clear-front, clear-back, first-clear, refused-front, answer-keeps, answer-clear}
+use Rattle.laws.specs.Outcome.{done, refused, clear, first, judged, after, clear-then, clear-front, clear-back, first-clear, refused-front, answer-keeps, answer-clear}
 use Rattle.laws.specs.Loop.{by, Within}
 use Rattle.laws.specs.Perm.{Perm}
 use Rattle.sets.specs.declared.Set.{Set}
@@ -71,20 +71,26 @@ module _ (s : Set) (total i o : ℕ) (e : movedOf s total i o ≡ done tt) where
   pub its-output : {B : Type 0} (new old : B) → after (blockLines s total i o) new old ≡ new
   its-output new old = rw all-clear
 
+-- what the walk from the first cell says of the lines in front: one of them refuses, or none applies
+module _ (s : Set) (room : ℕ) where
+  pub walked-refused : {x : Refusal} → refused x ≡ walkedOf Interleaver (begin s) room → judged (refusal s) (planLines s) (walkValues Interleaver (begin s) room) ≡ refused x
+  unfolding walkedOf
+  walked-refused e = sym (rw (begin-lines s) at e)
+
+  pub walked-clear : {v : Values} → done v ≡ walkedOf Interleaver (begin s) room → first (planLines s) ≡ clear
+  unfolding walkedOf
+  walked-clear e = sym (begin-lines s) ∙ answer-clear (refusal s) (walkValues Interleaver (begin s) room) (walkLines Interleaver (begin s)) (sym e)
+
 -- filling, return by return. The walk is refused: so is the block
 module _ (s : Set) (total i o : ℕ) where
   pub walk-refused : {x : Refusal} (room : ℕ) (table : List ℕ) → refused x ≡ walkedOf Interleaver (begin s) room → Filled s total i o table (Refused x)
-  unfolding blockLines walkedOf
+  unfolding blockLines
   walk-refused room table e = record {
-    says = sym (refused-front (refusal s) (walkValues Interleaver (begin s) room) (planLines s) (lengthLines total i o) (sym (rw (begin-lines s) at e)) tt);
+    says = sym (refused-front (refusal s) (walkValues Interleaver (begin s) room) (planLines s) (lengthLines total i o) (walked-refused s room e) tt);
     tabled = λ q. let z : _≡_ {A = ℕ} 0 1 = cc in absurd (omega arith);
   }
 
   -- it is done: the two lengths decide
-  pub walk-clear : {v : Values} (room : ℕ) → done v ≡ walkedOf Interleaver (begin s) room → first (planLines s) ≡ clear
-  unfolding walkedOf
-  walk-clear {v} room e = sym (begin-lines s) ∙ answer-clear (refusal s) (walkValues Interleaver (begin s) room) (walkLines Interleaver (begin s)) (sym e)
-
   module _ (p : first (planLines s) ≡ clear) (table : List ℕ) where
     front : first (blockLines s total i o) ≡ first (lengthLines total i o)
     unfolding blockLines

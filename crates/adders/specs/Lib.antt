@@ -1,0 +1,6 @@
+pub mod Finite
+pub mod Heard
+pub mod Any
+pub mod Lines
+pub mod Judging
+pub mod Adding

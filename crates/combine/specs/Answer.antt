@@ -1,0 +1,88 @@
+-- Repeated receptions of a block, added up: the lines of the two calls in the order of change request 2, what they have to say, and what is stored after
+-- a call.
+use Prim.Native.Nat.{ℕ}
+use mathlib.Core.Bool.{Bool, true, false, cond, not, _&&_}
+use mathlib.Core.List.{List, [], _∷_, _++_}
+use mathlib.Core.Path.{_≡_, refl}
+use lib.Dec.{eqb, leb}
+use lib.Ieee.{Float, nan}
+use lib.ListN.{length, getD}
+use Rattle.laws.specs.Outcome.{Outcome, done, refused, apart, Line, line, judged, after}
+use Rattle.laws.specs.Run.{run}
+use Rattle.sets.specs.declared.Set.{Set}
+use Rattle.sets.specs.declared.Refusal.{Refusal}
+use Rattle.sets.specs.Verdict.{refusal}
+use Rattle.families.specs.Rules.{L, M}
+use Rattle.walks.specs.Answer.{planLines}
+use Rattle.adders.specs.declared.Running.{Running}
+use Rattle.adders.specs.Heard.{running, Reception, Kept, held, heard}
+use Rattle.adders.specs.Lines.{valueLines}
+use Rattle.combine.specs.declared.Reading.{Reading}
+use Rattle.combine.specs.declared.Reading.the-variants.{Soft, Blank, Refused}
+
+-- two lists have n entries each
+abbrev pub bothLong : {A B : Type 0} → ℕ → List A → List B → Bool
+bothLong n xs ys = eqb (length xs) n && eqb (length ys) n
+
+-- adding a block: 1, 2, 3, 8; 5 the block or its presence bytes aren't N; 6 the sums or the counts aren't; then 14, 13, 15
+unfoldable pub addLines : Set → Reception → Kept → List Line
+addLines s b h =
+    planLines s
+    ++ (line 5 (not (bothLong (s .n) (b .received) (b .present)))
+    ∷ line 6 (not (bothLong (s .n) (h .sums) (h .counts)))
+    ∷ valueLines (L s) (s .n) b h)
+
+-- what adding a block has to say
+unfoldable pub addedOf : Set → Reception → Kept → Outcome Refusal (Unit {0})
+addedOf s b h = judged (refusal s) (addLines s b h) tt
+
+-- position k hears value M(k), which is the one whose input index is k
+abbrev pub heardIn : Set → Reception → Kept → ℕ → Running
+heardIn s b h k = heard (getD (b .present) (M s k) 0) (getD (b .received) (M s k) nan) (held h k)
+
+-- the sums and the counts after the call: each position as it hears its value; where a line applies, what was stored
+unfoldable pub sumsOf : Set → Reception → Kept → List Float
+sumsOf s b h = after (addLines s b h) (run (λ k. heardIn s b h k .sum) 0 (s .n)) (h .sums)
+
+unfoldable pub countsOf : Set → Reception → Kept → List ℕ
+countsOf s b h = after (addLines s b h) (run (λ k. heardIn s b h k .count) 0 (s .n)) (h .counts)
+
+-- what stands at a position
+pub data Held : Type 0 where
+  soft : Running → Held
+  blank : Held
+
+-- a blank exactly where the count is 0
+abbrev pub toldOf : Running → Held
+toldOf r = cond (eqb (r .count) 0) blank (soft r)
+
+-- reading position k: 1, 2, 3, 8, 4 a position that is N or more, 6 the sums or the counts aren't N
+unfoldable pub readLines : Set → Kept → ℕ → List Line
+readLines s h k = planLines s ++ (line 4 (leb (s .n) k) ∷ line 6 (not (bothLong (s .n) (h .sums) (h .counts))) ∷ [])
+
+unfoldable pub readOf : Set → Kept → ℕ → Outcome Refusal Held
+readOf s h k = judged (refusal s) (readLines s h k) (toldOf (held h k))
+
+-- what the answer of a reading says
+abbrev pub sayReading : Reading → Outcome Refusal Held
+sayReading (Soft r) = done (soft r)
+sayReading Blank = done blank
+sayReading (Refused x) = refused x
+
+-- two answers that say the same are the same
+pub readings-apart : (a b : Reading) → sayReading a ≡ sayReading b → a ≡ b
+readings-apart = apart sayReading read same
+  where
+    read : Outcome Refusal Held → Reading
+    read (done (soft r)) = Soft r
+    read (done blank) = Blank
+    read (refused x) = Refused x
+
+    same : (a : Reading) → read (sayReading a) ≡ a
+    same (Soft r) = refl
+    same Blank = refl
+    same (Refused x) = refl
+
+-- of two lengths, one that isn't n, if there is one
+abbrev pub oneOff : ℕ → ℕ → ℕ → ℕ
+oneOff n a b = cond (eqb a n) b a

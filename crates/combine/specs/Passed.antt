@@ -1,0 +1,191 @@
+-- What stands behind each return of the two calls: the table, the judgement, the loop that adds.
+use Prim.Native.Nat.{ℕ, _≤_, _<_}
+use mathlib.Core.Bool.{Bool, true, false, cond, not, _&&_, false≢true}
+use mathlib.Core.List.{List, [], _∷_, _++_, append-assoc}
+use mathlib.Core.Logic.{_≢_}
+use mathlib.Core.Path.{_≡_, refl, sym, ap, ap₂, _∙_}
+use native.Mathlib.Nat.{zero-add}
+use native.Mathlib.Omega.{arith}
+use lib.Dec.{eqb, ltb, leb}
+use lib.Ieee.{Float, nan}
+use lib.ListN.{length, getD}
+use borrow.Author.Tests.{eqb-true, eqb-false, ltb-false}
+use Rattle.laws.specs.Outcome.{Outcome, done, refused, Line, line, Ruling, clear, stopped, first, settle, judged, after, first-clear, answer-clear, clear-then, refused-front, kept-front, done-front}
+use Rattle.laws.specs.Run.{run, length-run, getD-run, run-same}
+use Rattle.laws.specs.Move.{gather, scatter, scatter-same, scatter-is}
+use Rattle.laws.specs.Loop.{by}
+use Rattle.laws.specs.Perm.{Perm}
+use Rattle.sets.specs.declared.Set.{Set}
+use Rattle.sets.specs.declared.Refusal.{Refusal}
+use Rattle.sets.specs.Verdict.{refusal}
+use Rattle.families.specs.Rules.{L, M}
+use Rattle.walks.specs.Answer.{planLines}
+use Rattle.tables.specs.declared.Moved.{Moved}
+use Rattle.tables.specs.declared.Moved.the-variants.{Done, Refused}
+use Rattle.tables.specs.Answer.{lengthLines, blockLines, movedOf, sayMoved}
+use Rattle.tables.specs.Passed.{Filled, its-perm, its-lengths, refused-answer, done-answer}
+use Rattle.adders.specs.declared.Running.{Running}
+use Rattle.adders.specs.Heard.{Reception, Kept, held, heard}
+use Rattle.adders.specs.Any.{any, any-none}
+use Rattle.adders.specs.Lines.{heardAt, isHigh, isSpoiled, isFull, valueLines, lines-same, ruled, ruled-clear, ruled-stopped}
+use Rattle.adders.specs.Adding.{Fitting, Ready, newSums, newCounts, sumsBy, countsBy}
+use Rattle.combine.specs.Answer.{bothLong, addLines, addedOf, heardIn, sumsOf, countsOf, oneOff}
+
+-- the one of two lengths that isn't n says whether both are
+pub off-both : (n a b : ℕ) → eqb (oneOff n a b) n ≡ (eqb a n && eqb b n)
+off-both n a b = go (eqb a n) refl
+  where
+    go : (t : Bool) → eqb a n ≡ t → eqb (cond t b a) n ≡ (t && eqb b n)
+    go true e = refl
+    go false e = e
+
+pub both-on : (n x y : ℕ) → oneOff n x y ≡ n → (x ≡ n) × (y ≡ n)
+both-on n x y q = go (eqb x n) refl q
+  where
+    go : (t : Bool) → eqb x n ≡ t → cond t y x ≡ n → (x ≡ n) × (y ≡ n)
+    go true d q = (eqb-true x n d, q)
+    go false d q = absurd (eqb-false x n d q)
+
+module _ (s : Set) (b : Reception) (h : Kept) where
+  -- the lengths as `tables` judges them
+  abbrev pub inputOf : ℕ
+  inputOf = oneOff (s .n) (length (b .received)) (length (b .present))
+
+  abbrev pub outputOf : ℕ
+  outputOf = oneOff (s .n) (length (h .sums)) (length (h .counts))
+
+  -- the lines of a block of these lengths, and those of its values behind them
+  pub lines-are : addLines s b h ≡ blockLines s (s .n) inputOf outputOf ++ valueLines (L s) (s .n) b h
+  unfolding addLines blockLines
+  lines-are =
+      ap₂ (λ (x y : Bool). planLines s ++ (line 5 (not x) ∷ line 6 (not y) ∷ valueLines (L s) (s .n) b h))
+      (sym (off-both (s .n) (length (b .received)) (length (b .present)))) (sym (off-both (s .n) (length (h .sums)) (length (h .counts))))
+      ∙ sym (append-assoc (planLines s) (lengthLines (s .n) inputOf outputOf) (valueLines (L s) (s .n) b h))
+
+  pub filled-so : {i o : ℕ} {table : List ℕ} {r : Moved} → i ≡ inputOf → o ≡ outputOf → Filled s (s .n) i o table r → Filled s (s .n) inputOf outputOf table r
+  filled-so x y p = rw (sym x, sym y) p
+
+  -- the table is not had: so is the call refused, and all is as it was
+  module _ {table : List ℕ} {r : Moved} (p : Filled s (s .n) inputOf outputOf table r) {x : Refusal} (e : r ≡ Refused x) where
+    refusing : movedOf s (s .n) inputOf outputOf ≡ refused x
+    refusing = sym (refused-answer p e)
+
+    pub table-refused : refused x ≡ addedOf s b h
+    unfolding addedOf
+    table-refused =
+        sym (ap (λ (ls : List Line). judged (refusal s) ls tt) lines-are ∙ refused-front (refusal s) tt (blockLines s (s .n) inputOf outputOf) (valueLines (L s) (s .n) b h) refusing tt)
+
+    kept-then : {B : Type 0} (new old : B) → old ≡ after (addLines s b h) new old
+    kept-then new old =
+        sym (ap (λ (ls : List Line). after ls new old) lines-are ∙ kept-front (refusal s) tt (blockLines s (s .n) inputOf outputOf) (valueLines (L s) (s .n) b h) refusing new old)
+
+    pub sums-kept : h .sums ≡ sumsOf s b h
+    unfolding sumsOf
+    sums-kept = kept-then (run (λ k. heardIn s b h k .sum) 0 (s .n)) (h .sums)
+
+    pub counts-kept : h .counts ≡ countsOf s b h
+    unfolding countsOf
+    counts-kept = kept-then (run (λ k. heardIn s b h k .count) 0 (s .n)) (h .counts)
+
+  -- the table is had: all is as long as it must be, and the values decide
+  module _ {table : List ℕ} {r : Moved} (p : Filled s (s .n) inputOf outputOf table r) (e : r ≡ Done) where
+    perm : Perm (s .n) (L s) (M s)
+    perm = its-perm s (s .n) inputOf outputOf (sym (done-answer p e))
+
+    -- every length is N
+    pub record Long : Type 0 where
+      pub received : length (b .received) ≡ s .n
+      pub present : length (b .present) ≡ s .n
+      pub sums : length (h .sums) ≡ s .n
+      pub counts : length (h .counts) ≡ s .n
+
+    pub long : Long
+    long =
+        let l = its-lengths s (s .n) inputOf outputOf (sym (done-answer p e)) in
+        let i = both-on (s .n) (length (b .received)) (length (b .present)) (l .0) in
+        let o = both-on (s .n) (length (h .sums)) (length (h .counts)) (l .1) in
+        record { received = i .0; present = i .1; sums = o .0; counts = o .1 }
+
+    pub fits-table : Fitting table b h
+    fits-table =
+        let t = p .tabled e in
+        record {
+          presences = long .present ∙ sym (long .received);
+          sums = long .sums ∙ sym (long .received);
+          counts = long .counts ∙ sym (long .received);
+          room = omega (arith, t .room, long .received);
+          within = λ k l. omega (arith, long .received, t .within k (omega (arith, long .received)));
+        }
+
+    -- the lines by the table are the lines by L
+    by-values : first (addLines s b h) ≡ first (valueLines (by table) (length (b .received)) b h)
+    by-values =
+        ap first lines-are
+        ∙ done-front (refusal s) tt tt (blockLines s (s .n) inputOf outputOf) (valueLines (L s) (s .n) b h) (sym (done-answer p e))
+        ∙ ap first (sym (lines-same (by table) (L s) (s .n) b h (p .tabled e .holds)) ∙ ap (λ (n : ℕ). valueLines (by table) n b h) (sym (long .received)))
+
+    module _ {number : ℕ} (j : number ≡ ruled (first (valueLines (by table) (length (b .received)) b h))) where
+      -- a line of the values applies
+      module _ (no-zero : number ≢ 0) where
+        stops : first (addLines s b h) ≡ stopped number
+        stops = by-values ∙ ruled-stopped (first (valueLines (by table) (length (b .received)) b h)) (λ z. no-zero (j ∙ z)) ∙ ap stopped (sym j)
+
+        pub values-refused : {x : Refusal} → x ≡ refusal s number → refused x ≡ addedOf s b h
+        unfolding addedOf
+        values-refused q = rw stops (ap refused q)
+
+        pub sums-refused : h .sums ≡ sumsOf s b h
+        unfolding sumsOf
+        sums-refused = rw stops
+
+        pub counts-refused : h .counts ≡ countsOf s b h
+        unfolding countsOf
+        counts-refused = rw stops
+
+      -- none does: the block may be added, and what the loop leaves is what the call promises
+      module _ (is-zero : number ≡ 0) where
+        goes : first (valueLines (by table) (length (b .received)) b h) ≡ clear
+        goes =
+            ruled-clear (any (isHigh (by table) b h) (length (b .received))) (any (isSpoiled (by table) b h) (length (b .received)))
+            (any (isFull (by table) b h) (length (b .received))) (sym j ∙ is-zero)
+
+        pub ready : Ready table b h
+        ready = record {
+          fitting = fits-table;
+          once = λ i k hi hk q.
+              let a : i < s .n = omega (arith, long .received) in
+              let c : k < s .n = omega (arith, long .received) in
+              sym (perm .m-of-l i a) ∙ ap (M s) (sym (p .tabled e .holds i a) ∙ q ∙ p .tabled e .holds k c) ∙ perm .m-of-l k c;
+          spare = λ t l.
+              ltb-false 65535 (heardAt (by table) b h t .count)
+              (any-none (isFull (by table) b h) (length (b .received)) (first-clear (valueLines (by table) (length (b .received)) b h) goes .1 .1 .0) t l);
+        }
+
+        pub values-done : done tt ≡ addedOf s b h
+        unfolding addedOf
+        values-done = rw (by-values ∙ goes)
+
+        -- a list that is scattered by the table, of what value t makes of its position, is by input index what position k becomes
+        placed : {A : Type 0} (part : Running → A) (z : A) (old : List A) → length old ≡ s .n
+            → scatter (by table) (length (b .received)) z (run (λ t. part (heardAt (by table) b h t)) 0 (length (b .received))) old ≡ run (λ k. part (heardIn s b h k)) 0 (s .n)
+        unfolding gather
+        placed part z old l =
+            ap (λ (n : ℕ). scatter (by table) n z (run (λ t. part (heardAt (by table) b h t)) 0 n) old) (long .received)
+            ∙ ap (λ (xs : List _). scatter (by table) (s .n) z xs old)
+            (run-same (λ t. part (heardAt (by table) b h t)) (λ t. part (heardAt (L s) b h t)) 0 (s .n)
+            (λ t h'. ap (λ (k : ℕ). part (heard (getD (b .present) t 0) (getD (b .received) t nan) (held h k))) (p .tabled e .holds t (omega arith))))
+            ∙ scatter-same (by table) (L s) (s .n) z (run (λ t. part (heardAt (L s) b h t)) 0 (s .n)) old (p .tabled e .holds)
+            ∙ scatter-is perm z (run (λ t. part (heardAt (L s) b h t)) 0 (s .n)) old l
+            ∙ run-same (λ k. getD (run (λ t. part (heardAt (L s) b h t)) 0 (s .n)) (M s k) z) (λ k. part (heardIn s b h k)) 0 (s .n)
+            (λ k h'. let below : k < s .n = omega arith in
+            getD-run (λ t. part (heardAt (L s) b h t)) 0 (s .n) (M s k) z (perm .m-below k below)
+            ∙ ap (λ (t : ℕ). part (heardAt (L s) b h t)) (zero-add (M s k))
+            ∙ ap (λ (x : ℕ). part (heard (getD (b .present) (M s k) 0) (getD (b .received) (M s k) nan) (held h x))) (perm .l-of-m k below))
+
+        pub sums-done : {got : List Float} → got ≡ sumsBy (by table) (length (b .received)) b h → got ≡ sumsOf s b h
+        unfolding sumsOf
+        sums-done q = q ∙ placed (λ x. x .sum) nan (h .sums) (long .sums) ∙ rw (by-values ∙ goes)
+
+        pub counts-done : {got : List ℕ} → got ≡ countsBy (by table) (length (b .received)) b h → got ≡ countsOf s b h
+        unfolding countsOf
+        counts-done q = q ∙ placed (λ x. x .count) 0 (h .counts) (long .counts) ∙ rw (by-values ∙ goes)

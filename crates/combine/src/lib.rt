@@ -1,0 +1,118 @@
+// Repeated receptions of a block added up. Lent are the stored sums and the counts of receptions, N of each, by input index; a newly received block
+// in output order, and a presence byte for each of its values. Zero is a value: whether there is one is said by the presence byte and by the count
+// alone.
+use adders::Running;
+use sets::Refusal;
+use sets::Set;
+use tables::LARGE;
+use tables::MIDDLE;
+use tables::Moved;
+use tables::SMALL;
+use walks::Walk;
+use walks::Walked;
+ghost use mathlib.Core.Path.{_≡_};
+ghost use Rattle.adders.specs.Heard.{running, reception, kept};
+ghost use Rattle.laws.specs.Outcome.{done};
+ghost use Rattle.tables.specs.Answer.{sayMoved};
+ghost use Rattle.tables.specs.Passed.{Roomy};
+ghost use Rattle.combine.specs.Answer.{addedOf, sumsOf, countsOf, readOf, sayReading, toldOf, oneOff};
+
+// What stands at a position: a soft value, which is the running sum and how many values it is of; or a blank, where the count is 0.
+pub enum Reading {
+    Soft(Running),
+    Blank,
+    Refused(Refusal),
+}
+
+// Of two lengths, one that isn't n, if there is one.
+fn off(n: usize, a: usize, b: usize) -> usize
+    ensures { λ r. ⌜ r ≡ oneOff n a b ⌝ }
+{
+    if a != n {
+        return a;
+    }
+    b
+}
+
+// Adds a block by a lent table.
+fn add_by(set: Set, table: &mut [u16], received: &[f32], present: &[u8], sums: &mut [f32], counts: &mut [u16]) -> Moved
+    requires { ⌜ Roomy set (now table) ⌝ }
+    ensures answer { λ r. ⌜ sayMoved r ≡ addedOf set
+        (reception (now (received .entry)) (now (present .entry))) (kept (now (sums .entry)) (now (counts .entry))) ⌝ }
+    ensures sums { λ r. ⌜ now (sums .exit) ≡ sumsOf set
+        (reception (now (received .entry)) (now (present .entry))) (kept (now (sums .entry)) (now (counts .entry))) ⌝ }
+    ensures counts { λ r. ⌜ now (counts .exit) ≡ countsOf set
+        (reception (now (received .entry)) (now (present .entry))) (kept (now (sums .entry)) (now (counts .entry))) ⌝ }
+{
+    let n = set.n as usize;
+    let input = off(n, received.len(), present.len());
+    let output = off(n, sums.len(), counts.len());
+    match tables::fill(set, n, input, output, table) {
+        Moved::Refused(x) => Moved::Refused(x),
+        Moved::Done => {
+            let number = adders::judge_by(table, received, present, sums, counts);
+            if number != 0 {
+                return Moved::Refused(sets::refusal_of(set, number));
+            }
+            adders::add_by(table, received, present, sums, counts);
+            Moved::Done
+        }
+    }
+}
+
+// Adds a received block to what is stored: value t at input index L(t). A blank changes nothing; the first present value is stored as it is, count 1;
+// later ones are added with one rounding each, and the count rises by one. Refusals 1, 2, 3, 8, 5, 6, 14, 13, 15.
+pub fn add(set: Set, received: &[f32], present: &[u8], sums: &mut [f32], counts: &mut [u16]) -> Moved
+    ensures answer { λ r. ⌜ sayMoved r ≡ addedOf set
+        (reception (now (received .entry)) (now (present .entry))) (kept (now (sums .entry)) (now (counts .entry))) ⌝ }
+    ensures sums { λ r. ⌜ now (sums .exit) ≡ sumsOf set
+        (reception (now (received .entry)) (now (present .entry))) (kept (now (sums .entry)) (now (counts .entry))) ⌝ }
+    ensures counts { λ r. ⌜ now (counts .exit) ≡ countsOf set
+        (reception (now (received .entry)) (now (present .entry))) (kept (now (sums .entry)) (now (counts .entry))) ⌝ }
+{
+    let n = tables::size_of(set);
+    if n <= SMALL {
+        let mut table = [0u16; SMALL];
+        return add_by(set, &mut table, received, present, sums, counts);
+    }
+    if n <= MIDDLE {
+        let mut table = [0u16; MIDDLE];
+        return add_by(set, &mut table, received, present, sums, counts);
+    }
+    let mut table = [0u16; LARGE];
+    add_by(set, &mut table, received, present, sums, counts)
+}
+
+// What a position holds that has a count, or a blank.
+fn reading_at(sum: f32, count: u16) -> Reading
+    ensures { λ r. ⌜ sayReading r ≡ done (toldOf (running sum count)) ⌝ }
+{
+    if count == 0 {
+        return Reading::Blank;
+    }
+    Reading::Soft(Running { sum, count })
+}
+
+// Reads a position, by input index. Refusals 1, 2, 3, 8, 4, 6.
+pub fn read(set: Set, sums: &[f32], counts: &[u16], position: u32) -> Reading
+    ensures { λ r. ⌜ sayReading r ≡ readOf set (kept (now (sums .entry)) (now (counts .entry))) position ⌝ }
+{
+    let mut none = [0u16; 0];
+    match walks::walk_l(Walk { set, cell: 0 }, &mut none) {
+        Walked::Refused(x) => Reading::Refused(x),
+        Walked::Done {
+            written: _,
+            next: _,
+            cells: _,
+        } => {
+            if position >= set.n {
+                return Reading::Refused(sets::refusal_of(set, 4));
+            }
+            if off(set.n as usize, sums.len(), counts.len()) != set.n as usize {
+                return Reading::Refused(sets::refusal_of(set, 6));
+            }
+            let k = position as usize;
+            reading_at(sums[k], counts[k])
+        }
+    }
+}
