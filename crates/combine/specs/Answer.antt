@@ -24,13 +24,14 @@ use Rattle.combine.specs.declared.Reading.the-variants.{Soft, Blank, Ref
 abbrev pub bothLong : {A B : Type 0} → ℕ → List A → List B → Bool
 bothLong n xs ys = eqb (length xs) n && eqb (length ys) n
 
--- adding a block: 1, 2, 3, 8; 5 the block or its presence bytes aren't N; 6 the sums or the counts aren't; then 14, 13, 15
+-- what is asked of what is lent to add a block: 5 the block or its presence bytes aren't N; 6 the sums or the counts aren't; then 14, 13, 15
+abbrev pub lentLines : Set → Reception → Kept → List Line
+lentLines s b h =
+    line 5 (not (bothLong (s .n) (b .received) (b .present))) ∷ line 6 (not (bothLong (s .n) (h .sums) (h .counts))) ∷ valueLines (L s) (s .n) b h
+
+-- adding a block: 1, 2, 3, 8, and these
 unfoldable pub addLines : Set → Reception → Kept → List Line
-addLines s b h =
-    planLines s
-    ++ (line 5 (not (bothLong (s .n) (b .received) (b .present)))
-    ∷ line 6 (not (bothLong (s .n) (h .sums) (h .counts)))
-    ∷ valueLines (L s) (s .n) b h)
+addLines s b h = planLines s ++ lentLines s b h
 
 -- what adding a block has to say
 unfoldable pub addedOf : Set → Reception → Kept → Outcome Refusal (Unit {0})

@@ -1,3 +1,11 @@
 pub mod Answer
+pub mod Placed
 pub mod Passed
 pub mod Reads
+pub mod Laws
+pub mod Total
+pub mod Spoils
+pub mod Refusals
+pub mod Calls
+pub mod Eighths
+pub mod Exact

@@ -4,15 +4,14 @@ use mathlib.Core.Bool.{Bool, true, false, cond, not, _&&_, false≢true}
 use mathlib.Core.List.{List, [], _∷_, _++_, append-assoc}
 use mathlib.Core.Logic.{_≢_}
 use mathlib.Core.Path.{_≡_, refl, sym, ap, ap₂, _∙_}
-use native.Mathlib.Nat.{zero-add}
 use native.Mathlib.Omega.{arith}
 use lib.Dec.{eqb, ltb, leb}
 use lib.Ieee.{Float, nan}
 use lib.ListN.{length, getD}
 use borrow.Author.Tests.{eqb-true, eqb-false, ltb-false}
 use Rattle.laws.specs.Outcome.{Outcome, done, refused, Line, line, Ruling, clear, stopped, first, settle, judged, after, first-clear, answer-clear, clear-then, refused-front, kept-front, done-front}
-use Rattle.laws.specs.Run.{run, length-run, getD-run, run-same}
-use Rattle.laws.specs.Move.{gather, scatter, scatter-same, scatter-is}
+use Rattle.laws.specs.Run.{run, run-same}
+use Rattle.laws.specs.Move.{scatter, scatter-same}
 use Rattle.laws.specs.Loop.{by}
 use Rattle.laws.specs.Perm.{Perm}
 use Rattle.sets.specs.declared.Set.{Set}
@@ -30,6 +29,7 @@ use Rattle.adders.specs.Any.{any, any-none}
 use Rattle.adders.specs.Lines.{heardAt, isHigh, isSpoiled, isFull, valueLines, lines-same, ruled, ruled-clear, ruled-stopped}
 use Rattle.adders.specs.Adding.{Fitting, Ready, newSums, newCounts, sumsBy, countsBy}
 use Rattle.combine.specs.Answer.{bothLong, addLines, addedOf, heardIn, sumsOf, countsOf, oneOff}
+use Rattle.combine.specs.Placed.{placed}
 
 -- the one of two lengths that isn't n says whether both are
 pub off-both : (n a b : ℕ) → eqb (oneOff n a b) n ≡ (eqb a n && eqb b n)
@@ -165,27 +165,21 @@ module _ (s : Set) (b : Reception) (h : Kept) where
         unfolding addedOf
         values-done = rw (by-values ∙ goes)
 
-        -- a list that is scattered by the table, of what value t makes of its position, is by input index what position k becomes
-        placed : {A : Type 0} (part : Running → A) (z : A) (old : List A) → length old ≡ s .n
+        -- what the table scatters, L does
+        by-table : {A : Type 0} (part : Running → A) (z : A) (old : List A) → length old ≡ s .n
             → scatter (by table) (length (b .received)) z (run (λ t. part (heardAt (by table) b h t)) 0 (length (b .received))) old ≡ run (λ k. part (heardIn s b h k)) 0 (s .n)
-        unfolding gather
-        placed part z old l =
+        by-table part z old l =
             ap (λ (n : ℕ). scatter (by table) n z (run (λ t. part (heardAt (by table) b h t)) 0 n) old) (long .received)
             ∙ ap (λ (xs : List _). scatter (by table) (s .n) z xs old)
             (run-same (λ t. part (heardAt (by table) b h t)) (λ t. part (heardAt (L s) b h t)) 0 (s .n)
-            (λ t h'. ap (λ (k : ℕ). part (heard (getD (b .present) t 0) (getD (b .received) t nan) (held h k))) (p .tabled e .holds t (omega arith))))
+            (λ t g. ap (λ (k : ℕ). part (heard (getD (b .present) t 0) (getD (b .received) t nan) (held h k))) (p .tabled e .holds t (omega arith))))
             ∙ scatter-same (by table) (L s) (s .n) z (run (λ t. part (heardAt (L s) b h t)) 0 (s .n)) old (p .tabled e .holds)
-            ∙ scatter-is perm z (run (λ t. part (heardAt (L s) b h t)) 0 (s .n)) old l
-            ∙ run-same (λ k. getD (run (λ t. part (heardAt (L s) b h t)) 0 (s .n)) (M s k) z) (λ k. part (heardIn s b h k)) 0 (s .n)
-            (λ k h'. let below : k < s .n = omega arith in
-            getD-run (λ t. part (heardAt (L s) b h t)) 0 (s .n) (M s k) z (perm .m-below k below)
-            ∙ ap (λ (t : ℕ). part (heardAt (L s) b h t)) (zero-add (M s k))
-            ∙ ap (λ (x : ℕ). part (heard (getD (b .present) (M s k) 0) (getD (b .received) (M s k) nan) (held h x))) (perm .l-of-m k below))
+            ∙ placed s b h perm part z old l
 
         pub sums-done : {got : List Float} → got ≡ sumsBy (by table) (length (b .received)) b h → got ≡ sumsOf s b h
         unfolding sumsOf
-        sums-done q = q ∙ placed (λ x. x .sum) nan (h .sums) (long .sums) ∙ rw (by-values ∙ goes)
+        sums-done q = q ∙ by-table (λ x. x .sum) nan (h .sums) (long .sums) ∙ rw (by-values ∙ goes)
 
         pub counts-done : {got : List ℕ} → got ≡ countsBy (by table) (length (b .received)) b h → got ≡ countsOf s b h
         unfolding countsOf
-        counts-done q = q ∙ placed (λ x. x .count) 0 (h .counts) (long .counts) ∙ rw (by-values ∙ goes)
+        counts-done q = q ∙ by-table (λ x. x .count) 0 (h .counts) (long .counts) ∙ rw (by-values ∙ goes)

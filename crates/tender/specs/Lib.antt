@@ -5,4 +5,5 @@ pub mod Symbols
 pub mod Condition3
 pub mod Turbo
 pub mod Stream
+pub mod Combine
 pub mod Stars
