@@ -8,7 +8,7 @@ use mathlib.Core.Path.{_≡_, refl, sym, _∙_}
 use native.Mathlib.Omega.{arith}
 use lib.ListN.{length}
 use Rattle.laws.specs.declared.Way.{Way}
-use Rattle.laws.specs.Outcome.{done, refused, Line, Ruling, clear, stopped, first, settle, judged, after, First, first-stopped, stopped-first}
+use Rattle.laws.specs.Outcome.{done, refused, partOr, Line, Ruling, clear, stopped, first, settle, judged, after, First, first-stopped, stopped-first}
 use Rattle.sets.specs.declared.Set.{Set}
 use Rattle.sets.specs.Set.{sizeOf}
 use Rattle.sets.specs.Beside.{besideLines}
@@ -56,19 +56,19 @@ module _ {R A : Type 0} (number : R → ℕ) (give : ℕ → R) (given : (k : �
           (λ q. first-stopped ls k (e ∙ rw (sym (given j) ∙ q)), λ f. let z = stopped-first ls k f in let y : j ≡ k = cc in given j ∙ y)
 
 -- an out-parameter after a call is what any lent buffer is: the new value where no line applies, else the old one
-pub out-is-after : {R A : Type 0} (give : ℕ → R) (ls : List Line) (a : A) (part : A → ℕ) (old : ℕ) → outOf (judged give ls a) part old ≡ after ls (part a) old
+pub out-is-after : {R A B : Type 0} (give : ℕ → R) (ls : List Line) (a : A) (part : A → B) (old : B) → partOr (judged give ls a) part old ≡ after ls (part a) old
 out-is-after give ls a part old = go (first ls)
   where
-    go : (r : Ruling) → outOf (settle r (λ k. refused (give k)) (done a)) part old ≡ settle r (λ k. old) (part a)
+    go : (r : Ruling) → partOr (settle r (λ k. refused (give k)) (done a)) part old ≡ settle r (λ k. old) (part a)
     go clear = refl
     go (stopped k) = refl
 
 -- the lines of each kind of call
 
-positive : (k : ℕ) → suc k ≢ 0
+pub positive : (k : ℕ) → suc k ≢ 0
 positive k q = omega arith
 
-numbered-join : (ls ms : List Line) → Numbered ls → Numbered ms → Numbered (ls ++ ms)
+pub numbered-join : (ls ms : List Line) → Numbered ls → Numbered ms → Numbered (ls ++ ms)
 numbered-join [] ms h k = k
 numbered-join (l ∷ ls) ms h k = (h .0, numbered-join ls ms (h .1) k)
 
@@ -84,10 +84,13 @@ walk-numbered : (way : Way) (w : Walk) → Numbered (walkLines way w)
 unfolding walkLines
 walk-numbered way w = (positive 0, numbered-join (setLines (w .set)) _ (set-numbered (w .set)) (positive 7, (positive 8, tt)))
 
+pub plan-numbered : (s : Set) → Numbered (planLines s)
+unfolding planLines
+plan-numbered s = numbered-join (setLines s) _ (set-numbered s) (positive 7, tt)
+
 block-numbered : (s : Set) (total i o : ℕ) → Numbered (blockLines s total i o)
-unfolding blockLines planLines
-block-numbered s total i o =
-    numbered-join (planLines s) _ (numbered-join (setLines s) _ (set-numbered s) (positive 7, tt)) (positive 4, (positive 5, tt))
+unfolding blockLines
+block-numbered s total i o = numbered-join (planLines s) _ (plan-numbered s) (positive 4, (positive 5, tt))
 
 -- 0 is given exactly when the call says done: the test, an address, a walk, a block of any length ..
 module _ (s : Set) where

@@ -2,4 +2,5 @@
 // goes through its out-parameters, which a refused call leaves as they are. Nothing is decided here.
 pub mod lists; // lists.rt: the test of a set, addresses, walks
 pub mod moves; // moves.rt: whole blocks
+pub mod sums; // sums.rt: receptions added up
 pub mod dvb; // dvb.rt: the byte stream
