@@ -1,5 +1,6 @@
 /* What the two plain C's offer, in the same call shapes as the proved library: `divide_` works each address or byte out by document 01's
-   formula, `step_` keeps counters. Neither tests its input. `_written_out` is the same C with d and s as constants of the compiler. */
+   formula, `step_` keeps counters. Neither tests its input, but where receptions are added up or read. `_written_out` is the same C with d
+   and s as constants of the compiler. */
 #ifndef PLAIN_H
 #define PLAIN_H
 
@@ -38,6 +39,14 @@ walk_call divide_walk, divide_walk_written_out, step_walk, step_walk_written_out
 /* dst[t] = src[L(t)], of bytes or of f32. */
 typedef uint32_t move_call(const struct set *, const void *src, size_t, void *dst, size_t);
 move_call divide_bytes, divide_soft, step_bytes, step_soft;
+
+/* A received block added to what is stored, value t at L(t), with the tests of the library; and a position read, which takes no address. */
+typedef uint32_t add_call(const struct set *, const float *received, size_t, const uint8_t *present, size_t, float *sums, size_t, uint16_t *counts,
+                          size_t);
+add_call divide_add, step_add;
+typedef uint32_t read_call(const struct set *, const float *sums, size_t, const uint16_t *counts, size_t, uint32_t position, float *sum,
+                           uint16_t *count);
+read_call plain_read;
 
 /* A DVB feed. What the record holds is each side's own: the phase, or for `step_` the ring to come and a place for each ring. */
 enum { STORE = 1122, RECORD = 12 };

@@ -1,4 +1,4 @@
-/* Interleavers for C: address lists, whole blocks of bytes and of floats, the DVB byte stream.
+/* Interleavers for C: address lists, whole blocks of bytes and of floats, repeated receptions added up, the DVB byte stream.
 
        interleaver_set set = {INTERLEAVER_WLAN, 4, 192};
        uint8_t in[192], out[192];
@@ -40,15 +40,18 @@ typedef struct interleaver_set {
 #define INTERLEAVER_DVB_DELAY 2244u     /* an interleaver and a deinterleaver together are this many bytes late */
 
 #define INTERLEAVER_DONE 0u
-#define INTERLEAVER_PROFILE 1u  /* the profile isn't 1 to 5, or it is 5 and the call is the walk for M */
-#define INTERLEAVER_BITS 2u     /* the bits aren't listed for the profile */
-#define INTERLEAVER_SIZE 3u     /* n isn't listed for that profile and those bits */
-#define INTERLEAVER_POSITION 4u /* a position is n or more */
-#define INTERLEAVER_INPUT 5u    /* a block's input isn't n long */
-#define INTERLEAVER_OUTPUT 6u   /* a block's output isn't n long, or a feed's isn't as long as its input */
-#define INTERLEAVER_STORE 7u    /* a store isn't 1,122 bytes */
-#define INTERLEAVER_SEARCH 8u   /* the search for q passes 89: proved never to happen */
-#define INTERLEAVER_RECORD 9u   /* a cell is past the cell total, or a phase is 5,654,880 or more */
+#define INTERLEAVER_PROFILE 1u   /* the profile isn't 1 to 5, or it is 5 and the call is the walk for M */
+#define INTERLEAVER_BITS 2u      /* the bits aren't listed for the profile */
+#define INTERLEAVER_SIZE 3u      /* n isn't listed for that profile and those bits */
+#define INTERLEAVER_POSITION 4u  /* a position is n or more */
+#define INTERLEAVER_INPUT 5u     /* a block's input isn't n long, or its presence bytes aren't */
+#define INTERLEAVER_OUTPUT 6u    /* a block's output isn't n long, or sums or counts aren't, or a feed's output isn't as long as its input */
+#define INTERLEAVER_STORE 7u     /* a store isn't 1,122 bytes */
+#define INTERLEAVER_SEARCH 8u    /* the search for q passes 89: proved never to happen */
+#define INTERLEAVER_RECORD 9u    /* a cell is past the cell total, or a phase is 5,654,880 or more */
+#define INTERLEAVER_FINITE 13u   /* a present value, a stored sum whose count isn't 0, or the sum of these two isn't finite */
+#define INTERLEAVER_PRESENCE 14u /* a presence byte is above 1 */
+#define INTERLEAVER_COUNT 15u    /* a count would pass 65,535 */
 
 /* The test of a parameter set. Refusals 1, 2, 3. */
 uint32_t interleaver_test(const interleaver_set *set);
@@ -75,6 +78,20 @@ uint32_t interleaver_interleave_symbols(const interleaver_set *set, uint32_t wid
                                         size_t dst_len);
 uint32_t interleaver_deinterleave_symbols(const interleaver_set *set, uint32_t width, const uint8_t *src, size_t src_len, uint8_t *dst,
                                           size_t dst_len);
+
+/* A received block added to what is stored. received is n soft values in output order, present n bytes: 1 where there is a value, 0 where there
+   is a blank. sums and counts, n of each, are by input index: value t goes to L(t). A blank changes nothing; the first present value is stored
+   with its bits unchanged, count 1; a later one is added with one rounding, and the count rises by one. Zero is a value. Before a first block
+   every count is 0, and the sums may hold anything. A sum is exact while its values are whole eighths whose magnitudes total at most 2,097,152.
+   Refusals 1, 2, 3, 8, 5, 6, 14, 13, 15, each decided over the whole block before the next. 13 looks at the sums where the block is blank too; it
+   looks neither at a blank's value nor at a sum whose count is 0. */
+uint32_t interleaver_add_received(const interleaver_set *set, const float *received, size_t received_len, const uint8_t *present,
+                                  size_t present_len, float *sums, size_t sums_len, uint16_t *counts, size_t counts_len);
+
+/* One position, by input index: *sum and *count are what it holds. At a blank, *count is 0, and *sum keeps what it held. A sum that isn't finite is
+   read as it is. Refusals 1, 2, 3, 8, 4, 6. */
+uint32_t interleaver_read_sum(const interleaver_set *set, const float *sums, size_t sums_len, const uint16_t *counts, size_t counts_len,
+                              uint32_t position, float *sum, uint16_t *count);
 
 /* The DVB byte machine. Its state is a store of INTERLEAVER_DVB_STORE bytes and a phase. A start, of either way, fills the store and sets the
    phase to 0. Refusal 7. */

@@ -86,6 +86,7 @@ int main(void) {
     bytes();
     floats();
     symbols();
+    sums();
     streams();
     printf("C: %u passed, %u failed\n", passed, failed);
     return failed != 0;

@@ -27,5 +27,6 @@ void walks(void);
 void bytes(void);
 void floats(void);
 void symbols(void);
+void sums(void);
 void streams(void);
 #endif

@@ -42,11 +42,14 @@ refusals! {
     2 Bits "the bits aren't listed for the profile"
     3 Size "N isn't listed for that profile and those bits"
     4 Position "a position is N or more"
-    5 Input "a block's input isn't N long, N times the width for symbols"
-    6 Output "a block's output isn't N long, N times the width for symbols, or a feed's isn't as long as its input"
+    5 Input "a block's input isn't N long, N times the width for symbols, or its presence bytes aren't N"
+    6 Output "a block's output isn't N long, N times the width for symbols, or sums or counts aren't N, or a feed's output isn't as long as its input"
     7 Store "a store isn't 1,122 bytes; never here, since a `Dvb` has its own"
     8 Search "the search for q passes 89; proved never to happen"
     9 Record "a walk's cell is past the cell total"
+    13 Finite "a present value, a stored sum whose count isn't 0, or the sum of these two isn't finite"
+    14 Presence "a presence byte is above 1"
+    15 Count "a count would pass 65,535"
 }
 
 impl std::fmt::Display for Refusal {

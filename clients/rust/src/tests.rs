@@ -1,4 +1,4 @@
-// Every function of the wrapper over the archive: refusals, slices left alone, the bits of floats, walks and streams cut into parts.
+// Every function of the wrapper over the archive: refusals, slices left alone, the bits of floats and sums, walks and streams cut into parts.
 use super::*;
 
 fn sets() -> impl Iterator<Item = Set> {
@@ -19,10 +19,11 @@ fn a_refusal_is_its_number() {
     assert_eq!(answer(0), Ok(()));
     for number in (1..1000).chain([u32::MAX]) {
         let refusal = answer(number).unwrap_err();
-        assert_eq!((refusal.number(), refusal == Refusal::Other(number)), (number, number > 9));
+        assert_eq!((refusal.number(), refusal == Refusal::Other(number)), (number, !matches!(number, 1..=9 | 13..=15)));
         assert!(refusal.to_string().starts_with(&format!("refused with {number}: ")));
     }
     assert_eq!([1, 5, 6, 9].map(|number| answer(number).unwrap_err()), [Refusal::Profile, Refusal::Input, Refusal::Output, Refusal::Record]);
+    assert_eq!([13, 14, 15].map(|number| answer(number).unwrap_err()), [Refusal::Finite, Refusal::Presence, Refusal::Count]);
     assert_eq!(answer(10).unwrap_err().to_string(), "refused with 10: for a reason that has no name here");
 }
 
@@ -127,6 +128,89 @@ fn floats_keep_their_bits() {
         assert!(set.sources().unwrap().iter().zip(&sent).all(|(&l, x)| bits[l as usize] == x.to_bits()));
         set.deinterleave_soft(&sent, &mut received).unwrap();
         assert!(received.iter().zip(&bits).all(|(x, &b)| x.to_bits() == b));
+    }
+}
+
+#[test]
+fn receptions_are_added_up() {
+    let mut x = 1u32;
+    for set in sets() {
+        let (n, list) = (set.size(), set.sources().unwrap());
+        let (mut sums, mut counts, mut eighths, mut heard) = (vec![f32::NAN; n], vec![0; n], vec![0; n], vec![0; n]);
+        for _ in 0..3 {
+            let (mut received, mut present) = (vec![f32::INFINITY; n], vec![0; n]); // the value of a blank is not looked at
+            for (t, &l) in list.iter().enumerate() {
+                x = x.wrapping_mul(1_664_525).wrapping_add(1_013_904_223);
+                if x >> 30 != 0 {
+                    let value = (x >> 12 & 0xffff) as i32 - 0x8000;
+                    (received[t], present[t]) = (value as f32 / 8.0, 1);
+                    eighths[l as usize] += value;
+                    heard[l as usize] += 1;
+                }
+            }
+            set.add_received(&received, &present, &mut sums, &mut counts).unwrap();
+            assert_eq!(counts, heard);
+            for k in 0..n {
+                let held = Running { sum: eighths[k] as f32 / 8.0, count: heard[k] };
+                assert_eq!(set.read_sum(&sums, &counts, k as u32), Ok(if heard[k] == 0 { None } else { Some(held) }));
+            }
+        }
+    }
+}
+
+#[test]
+fn a_sum_keeps_its_bits() {
+    let set = Set::new(3, 1, 48).unwrap();
+    let k = set.source(1).unwrap();
+    let add = |sum: u32, count: u16, value: u32| {
+        let (mut received, mut present) = ([f32::NAN; 48], [0; 48]);
+        let (mut sums, mut counts) = ([f32::from_bits(sum); 48], [count; 48]);
+        (received[1], present[1]) = (f32::from_bits(value), 1);
+        set.add_received(&received, &present, &mut sums, &mut counts)?;
+        assert!((0..48).filter(|&i| i != k as usize).all(|i| (sums[i].to_bits(), counts[i]) == (sum, count)));
+        set.read_sum(&sums, &counts, k).map(|held| held.map(|held| (held.sum.to_bits(), held.count)))
+    };
+    for first in [0, 0x8000_0000, 1, 0x7f7f_ffff, 0x3e00_0000] {
+        // a sum whose count is 0 is not looked at
+        assert_eq!([0x40a0_0000, 0x7f80_0001, 0xff80_0000].map(|sum| add(sum, 0, first)), [Ok(Some((first, 1))); 3]);
+    }
+    assert_eq!(add(0x8000_0000, 1, 0x8000_0000), Ok(Some((0x8000_0000, 2))));
+    assert_eq!(add(0x8000_0000, 1, 0), Ok(Some((0, 2))));
+    assert_eq!(add(0x49ff_ffff, 1, 0x3e00_0000), Ok(Some((0x4a00_0000, 2)))); // up to 2,097,152
+    assert_eq!(add(0x4a00_0000, 65_534, 0x3e00_0000), Ok(Some((0x4a00_0000, 65_535)))); // an eighth more is lost
+    assert_eq!(add(0x4a00_0000, 65_535, 0x3e00_0000), Err(Refusal::Count));
+    assert_eq!(add(0x7f7f_ffff, 65_535, 0x7f7f_ffff), Err(Refusal::Finite));
+    for spoilt in [0x7f80_0001, 0xffc0_0000, 0x7f80_0000, 0xff80_0000] {
+        assert_eq!([add(0, 0, spoilt), add(0, 1, spoilt), add(spoilt, 1, 0)], [Err(Refusal::Finite); 3]);
+        let blank = |count: u16| set.add_received(&[0.0; 48], &[0; 48], &mut [f32::from_bits(spoilt); 48], &mut [count; 48]);
+        assert_eq!([0, 1, 65_535].map(blank), [Ok(()), Err(Refusal::Finite), Err(Refusal::Finite)]);
+        let read = set.read_sum(&[f32::from_bits(spoilt); 48], &[2; 48], k).unwrap().unwrap();
+        assert_eq!((read.sum.to_bits(), read.count), (spoilt, 2));
+    }
+}
+
+#[test]
+fn a_refused_reception_changes_nothing() {
+    for set in sets() {
+        let n = set.size();
+        let (mut received, mut present) = (vec![1.0; n + 1], vec![1; n + 1]);
+        let (mut sums, mut counts) = (vec![0.5; n + 1], vec![3; n + 1]);
+        let mut lengths = |[a, b, c, d]: [usize; 4]| set.add_received(&received[..a], &present[..b], &mut sums[..c], &mut counts[..d]);
+        for off in [n - 1, n + 1] {
+            assert_eq!([[off, n, n, n], [n, off, n, n], [off, n, off, n], [n, off, n, off]].map(&mut lengths), [Err(Refusal::Input); 4]);
+            assert_eq!([[n, n, off, n], [n, n, n, off]].map(&mut lengths), [Err(Refusal::Output); 2]);
+        }
+        assert_eq!((&sums, &counts), (&vec![0.5; n + 1], &vec![3; n + 1]));
+        counts[set.source(0).unwrap() as usize] = 65_535;
+        let kept = counts.clone();
+        assert_eq!(set.add_received(&received[..n], &present[..n], &mut sums[..n], &mut counts[..n]), Err(Refusal::Count));
+        received[n - 1] = f32::NAN;
+        assert_eq!(set.add_received(&received[..n], &present[..n], &mut sums[..n], &mut counts[..n]), Err(Refusal::Finite));
+        present[n / 2] = 2;
+        assert_eq!(set.add_received(&received[..n], &present[..n], &mut sums[..n], &mut counts[..n]), Err(Refusal::Presence));
+        assert_eq!((&sums, &counts), (&vec![0.5; n + 1], &kept));
+        assert_eq!(set.read_sum(&sums, &counts, n as u32), Err(Refusal::Position));
+        assert_eq!([set.read_sum(&sums, &counts[..n], 0), set.read_sum(&sums[..n], &counts, 0)], [Err(Refusal::Output); 2]);
     }
 }
 

@@ -13,8 +13,8 @@ use lib.Seq.{getD-set-other}
 use Rattle.laws.specs.Run.{run, length-run, getD-run}
 use Rattle.laws.specs.Move.{scatter, length-scatter}
 use Rattle.laws.specs.Loop.{by, Within}
-use Rattle.adders.specs.declared.Running.{Running}
-use Rattle.adders.specs.Heard.{running, Reception, Kept, kept, held, heard}
+use Rattle.positions.specs.declared.Running.{Running}
+use Rattle.positions.specs.Heard.{running, Reception, Kept, kept, held, heard, Hears}
 use Rattle.adders.specs.Lines.{heardAt}
 
 -- a table holds so many addresses, and all that is lent is that long
@@ -30,12 +30,6 @@ pub record Ready (table : List ℕ) (b : Reception) (h : Kept) : Type 0 where
   pub fitting : Fitting table b h
   pub once : (i j : ℕ) → i < length (b .received) → j < length (b .received) → by table i ≡ by table j → i ≡ j
   pub spare : (t : ℕ) → t < length (b .received) → heardAt (by table) b h t .count ≤ 65535
-
--- a reception at position a may be made
-pub record Hears (p : ℕ) (v : Float) (a : ℕ) (h : Kept) : Type 0 where
-  pub sums : a < length (h .sums)
-  pub counts : a < length (h .counts)
-  pub spare : heard p v (held h a) .count ≤ 65535
 
 -- what is written for the block, in output order, and where that goes
 module _ (l : ℕ → ℕ) (n : ℕ) (b : Reception) (h : Kept) where

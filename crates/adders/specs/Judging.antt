@@ -10,7 +10,7 @@ use lib.Dec.{eqb, ltb}
 use lib.ListN.{length}
 use Rattle.laws.specs.Loop.{by}
 use Rattle.laws.specs.Outcome.{first}
-use Rattle.adders.specs.Heard.{Reception, Kept}
+use Rattle.positions.specs.Heard.{Reception, Kept}
 use Rattle.adders.specs.Any.{any}
 use Rattle.adders.specs.Lines.{isHigh, isSpoiled, isFull, firstOf, valueLines, ruled}
 

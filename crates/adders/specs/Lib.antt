@@ -1,5 +1,3 @@
-pub mod Finite
-pub mod Heard
 pub mod Any
 pub mod Lines
 pub mod Judging

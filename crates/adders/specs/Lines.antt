@@ -10,8 +10,8 @@ use lib.Dec.{ltb}
 use lib.Ieee.{nan}
 use lib.ListN.{getD}
 use Rattle.laws.specs.Outcome.{Line, line, Ruling, clear, stopped, first, settle}
-use Rattle.adders.specs.declared.Running.{Running}
-use Rattle.adders.specs.Heard.{Reception, Kept, held, heard, spoils}
+use Rattle.positions.specs.declared.Running.{Running}
+use Rattle.positions.specs.Heard.{Reception, Kept, held, heard, spoils}
 use Rattle.adders.specs.Any.{any, any-same}
 
 abbrev pub firstOf : Bool → Bool → Bool → List Line

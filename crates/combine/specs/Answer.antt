@@ -14,8 +14,8 @@ use Rattle.sets.specs.declared.Refusal.{Refusal}
 use Rattle.sets.specs.Verdict.{refusal}
 use Rattle.families.specs.Rules.{L, M}
 use Rattle.walks.specs.Answer.{planLines}
-use Rattle.adders.specs.declared.Running.{Running}
-use Rattle.adders.specs.Heard.{running, Reception, Kept, held, heard}
+use Rattle.positions.specs.declared.Running.{Running}
+use Rattle.positions.specs.Heard.{running, Reception, Kept, held, heard}
 use Rattle.adders.specs.Lines.{valueLines}
 use Rattle.combine.specs.declared.Reading.{Reading}
 use Rattle.combine.specs.declared.Reading.the-variants.{Soft, Blank, Refused}

@@ -15,8 +15,8 @@ use Rattle.laws.specs.Outcome.{done, refused, Ruling, clear, stopped, first, af
 use Rattle.sets.specs.declared.Set.{Set}
 use Rattle.sets.specs.Verdict.{refusal}
 use Rattle.families.specs.Rules.{M}
-use Rattle.adders.specs.declared.Running.{Running}
-use Rattle.adders.specs.Heard.{running, Reception, Kept, held, later, heard}
+use Rattle.positions.specs.declared.Running.{Running}
+use Rattle.positions.specs.Heard.{running, Reception, Kept, held, later, heard}
 use Rattle.combine.specs.Answer.{addLines, addedOf}
 use Rattle.combine.specs.Laws.{keptAfter, refused-alone, hears}
 

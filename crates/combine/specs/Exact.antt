@@ -10,8 +10,8 @@ use lib.Ieee.Exact.{HasValue}
 use lib.ListN.{length}
 use borrow.Author.Tests.{eq-eqb}
 use Rattle.sets.specs.declared.Set.{Set}
-use Rattle.adders.specs.declared.Running.{Running}
-use Rattle.adders.specs.Heard.{Reception, Kept, held}
+use Rattle.positions.specs.declared.Running.{Running}
+use Rattle.positions.specs.Heard.{Reception, Kept, held}
 use Rattle.combine.specs.Calls.{addAll, wentTo, inTurn, sumBy, counted}
 use Rattle.combine.specs.Eighths.{Worth, above, below, add-exact}
 

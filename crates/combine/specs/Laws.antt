@@ -21,8 +21,8 @@ use Rattle.families.specs.Rules.{L, M}
 use Rattle.walks.specs.Answer.{planLines}
 use Rattle.walks.specs.Lists.{each-once}
 use Rattle.walks.specs.Whole.{plan-accepted}
-use Rattle.adders.specs.declared.Running.{Running}
-use Rattle.adders.specs.Heard.{running, Reception, Kept, kept, held, heard}
+use Rattle.positions.specs.declared.Running.{Running}
+use Rattle.positions.specs.Heard.{running, Reception, Kept, kept, held, heard}
 use Rattle.combine.specs.Answer.{lentLines, addLines, addedOf, heardIn, sumsOf, countsOf}
 
 -- what is stored after a call

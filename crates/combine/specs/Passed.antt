@@ -23,8 +23,8 @@ use Rattle.tables.specs.declared.Moved.{Moved}
 use Rattle.tables.specs.declared.Moved.the-variants.{Done, Refused}
 use Rattle.tables.specs.Answer.{lengthLines, blockLines, movedOf, sayMoved}
 use Rattle.tables.specs.Passed.{Filled, its-perm, its-lengths, refused-answer, done-answer}
-use Rattle.adders.specs.declared.Running.{Running}
-use Rattle.adders.specs.Heard.{Reception, Kept, held, heard}
+use Rattle.positions.specs.declared.Running.{Running}
+use Rattle.positions.specs.Heard.{Reception, Kept, held, heard}
 use Rattle.adders.specs.Any.{any, any-none}
 use Rattle.adders.specs.Lines.{heardAt, isHigh, isSpoiled, isFull, valueLines, lines-same, ruled, ruled-clear, ruled-stopped}
 use Rattle.adders.specs.Adding.{Fitting, Ready, newSums, newCounts, sumsBy, countsBy}

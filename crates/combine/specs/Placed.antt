@@ -11,8 +11,8 @@ use Rattle.laws.specs.Run.{run, getD-run, run-same}
 use Rattle.laws.specs.Move.{gather, scatter, scatter-is}
 use Rattle.sets.specs.declared.Set.{Set}
 use Rattle.families.specs.Rules.{L, M}
-use Rattle.adders.specs.declared.Running.{Running}
-use Rattle.adders.specs.Heard.{Reception, Kept, held, heard}
+use Rattle.positions.specs.declared.Running.{Running}
+use Rattle.positions.specs.Heard.{Reception, Kept, held, heard}
 use Rattle.adders.specs.Lines.{heardAt}
 use Rattle.combine.specs.Answer.{heardIn}
 

@@ -15,7 +15,7 @@ use Rattle.sets.specs.Verdict.{refusal}
 use Rattle.walks.specs.Answer.{planLines, walkedOf, walkValues}
 use Rattle.walks.specs.Whole.{begin}
 use Rattle.tables.specs.Passed.{walked-refused}
-use Rattle.adders.specs.Heard.{Kept, held}
+use Rattle.positions.specs.Heard.{Kept, held}
 use Rattle.combine.specs.Answer.{Held, toldOf, bothLong, readLines, readOf, oneOff}
 use Rattle.combine.specs.Passed.{off-both}
 

@@ -23,7 +23,7 @@ use Rattle.families.specs.Rules.{L}
 use Rattle.walks.specs.Answer.{planLines}
 use Rattle.walks.specs.Served as served
 use Rattle.walks.specs.Refusals.{planSentences, plan-told}
-use Rattle.adders.specs.Heard.{Reception, Kept, kept, held}
+use Rattle.positions.specs.Heard.{Reception, Kept, kept, held}
 use Rattle.adders.specs.Any.{any, Somewhere, any-some, any-none}
 use Rattle.adders.specs.Lines.{heardAt, isHigh, isSpoiled, isFull}
 use Rattle.combine.specs.Answer.{lentLines, addLines, addedOf, heardIn, sumsOf, countsOf, toldOf, readLines, readOf}

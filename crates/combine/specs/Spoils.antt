@@ -8,8 +8,8 @@ use lib.Ieee.{Float, add, binary32}
 use lib.Ieee.Scale.{finite}
 use borrow.Author.Tests.{eq-eqb, ne-eqb, eqb-true, eqb-false, not-true}
 use Rattle.laws.specs.Members.{both}
-use Rattle.adders.specs.declared.Running.{Running}
-use Rattle.adders.specs.Heard.{spoils}
+use Rattle.positions.specs.declared.Running.{Running}
+use Rattle.positions.specs.Heard.{spoils}
 
 -- not finite: an infinity, or not-a-number
 abbrev pub NotFinite : Float → Type 0

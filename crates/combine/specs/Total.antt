@@ -13,7 +13,7 @@ use Rattle.laws.specs.Run.{run, getD-run}
 use Rattle.laws.specs.Move.{scatter, length-scatter}
 use Rattle.sets.specs.declared.Set.{Set}
 use Rattle.families.specs.Rules.{L, M}
-use Rattle.adders.specs.Heard.{Reception, Kept, countAfter}
+use Rattle.positions.specs.Heard.{Reception, Kept, countAfter}
 use Rattle.adders.specs.Lines.{heardAt}
 use Rattle.adders.specs.Adding.{unmet}
 use Rattle.combine.specs.Answer.{addedOf, countsOf}

@@ -1,7 +1,7 @@
 // Repeated receptions of a block added up. Lent are the stored sums and the counts of receptions, N of each, by input index; a newly received block
 // in output order, and a presence byte for each of its values. Zero is a value: whether there is one is said by the presence byte and by the count
 // alone.
-use adders::Running;
+use positions::Running;
 use sets::Refusal;
 use sets::Set;
 use tables::LARGE;
@@ -11,7 +11,7 @@ use tables::SMALL;
 use walks::Walk;
 use walks::Walked;
 ghost use mathlib.Core.Path.{_≡_};
-ghost use Rattle.adders.specs.Heard.{running, reception, kept};
+ghost use Rattle.positions.specs.Heard.{running, reception, kept};
 ghost use Rattle.laws.specs.Outcome.{done};
 ghost use Rattle.tables.specs.Answer.{sayMoved};
 ghost use Rattle.tables.specs.Passed.{Roomy};

@@ -8,7 +8,7 @@ use Rattle.laws.specs.Outcome.{done, after, First}
 use Rattle.sets.specs.declared.Set.{Set}
 use Rattle.sets.specs.Verdict.{refusal, refusal-number}
 use Rattle.walks.specs.Answer.{planLines}
-use Rattle.adders.specs.Heard.{Reception, Kept, held}
+use Rattle.positions.specs.Heard.{Reception, Kept, held}
 use Rattle.combine.specs.Answer.{addLines, addedOf, toldOf, readLines, readOf}
 use Rattle.flat.specs.Flat.{numberOf}
 use Rattle.lent_sums.specs.Sums.{sumHeld, countHeld, sumOut, countOut}

@@ -1,7 +1,7 @@
 // Repeated receptions added up: blocks of N soft values in output order, each with N presence bytes; N sums and N counts, by input index.
 use flat::SET;
 ghost use mathlib.Core.Path.{_≡_};
-ghost use Rattle.adders.specs.Heard.{reception, kept};
+ghost use Rattle.positions.specs.Heard.{reception, kept};
 ghost use Rattle.combine.specs.Answer.{addedOf, sumsOf, countsOf};
 ghost use Rattle.flat.specs.Flat.{setOf, numberOf};
 ghost use Rattle.lent_sums.specs.Sums.{lentReading, sumOut, countOut};

@@ -4,7 +4,7 @@ use mathlib.Core.List.{List}
 use lib.Ieee.{Float}
 use Rattle.laws.specs.Outcome.{Outcome, partOr}
 use Rattle.sets.specs.declared.Refusal.{Refusal}
-use Rattle.adders.specs.Heard.{kept}
+use Rattle.positions.specs.Heard.{kept}
 use Rattle.combine.specs.Answer.{Held, soft, blank, readOf}
 use Rattle.flat.specs.Flat.{setOf}
 

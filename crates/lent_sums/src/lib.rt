@@ -3,7 +3,7 @@
 use combine::Reading;
 use flat::SET;
 ghost use mathlib.Core.Path.{_≡_};
-ghost use Rattle.adders.specs.Heard.{reception, kept};
+ghost use Rattle.positions.specs.Heard.{reception, kept};
 ghost use Rattle.combine.specs.Answer.{addedOf, sumsOf, countsOf, sayReading};
 ghost use Rattle.flat.specs.Flat.{setOf, numberOf};
 ghost use Rattle.lent_sums.specs.Sums.{lentReading, sumOut, countOut};

@@ -16,8 +16,8 @@ use Rattle.laws.specs.Sentences.{FirstTrue}
 use Rattle.laws.specs.Told.{NoneTrue}
 use Rattle.sets.specs.declared.Set.{Set}
 use Rattle.sets.specs.Verdict.{refusal}
-use Rattle.adders.specs.declared.Running.{Running}
-use Rattle.adders.specs.Heard.{running, Reception, reception, Kept, kept, held, heard, later}
+use Rattle.positions.specs.declared.Running.{Running}
+use Rattle.positions.specs.Heard.{running, Reception, reception, Kept, kept, held, heard, later}
 use Rattle.blocks.specs.Answer.{moved}
 use Rattle.combine.specs.Answer.{addedOf, sumsOf, countsOf, soft, blank, readOf, toldOf}
 use Rattle.combine.specs.Laws as laws

@@ -2,7 +2,7 @@
 use Prim.Native.Nat.{_-_}
 use native.Mathlib.Omega.{arith}
 use lib.ListN.{length}
-use Rattle.adders.specs.Heard.{reception, kept}
+use Rattle.positions.specs.Heard.{reception, kept}
 use Rattle.adders.specs.Adding.{Added, added-none, may-hear, added-more, added-all}
 use Rattle.adders.proofs.add_by.Statement.{statement}
 use Rattle.adders.proofs.add_by.Tie as tie
@@ -20,12 +20,12 @@ add-by-spec =
     Inv-loop
     μ-loop
     (λ c. added-none (c .before .before .before .before .before .pre))
-    (λ c. omega (arith, c .before .loop-test .taken, c .before .before .before .before .before .before .before .before .pre .fitting .presences))
-    (λ c. omega (arith, c .before .loop-test .taken, c .before .before .before .before .before .before .before .before .good))
-    (λ c. c .before .before .loop-test .taken)
-    (λ c. let s = c .before .before .before .before .before .before .before .before .before in omega (arith, c .before .before .loop-test .taken, s .pre .fitting .room, s .good))
-    (λ c. omega (arith, c .before .before .before .loop-test .taken, c .before .before .before .before .before .before .before .before .before .before .pre .fitting .room))
-    (λ c. omega (arith, c .shared-slice-known6 .given (c .before .before .before .before .loop .t)))
+    (λ c. let s = c .before .before .before .before .before .before .before in omega (arith, c .loop-test .taken, s .pre .fitting .room, s .good))
+    (λ c. omega (arith, c .before .loop-test .taken, c .before .before .before .before .before .before .before .before .pre .fitting .room))
+    (λ c. omega (arith, c .shared-slice-known4 .given (c .before .before .loop .t)))
+    (λ c. omega (arith, c .before .before .loop-test .taken, c .before .before .before .before .before .before .before .before .before .pre .fitting .presences))
+    (λ c. omega (arith, c .before .before .loop-test .taken, c .before .before .before .before .before .before .before .before .before .good))
+    (λ c. c .before .before .before .loop-test .taken)
     (λ c κs. may-hear (c .before .before .before .before .before .before .before .before .before .before .before .before .pre) (c .before .before .before .before .before .before .loop .inv) (c .before .before .before .before .before .loop-test .taken))
     (λ c. omega (arith, c .before .before .before .before .before .before .before .before .before .before .loop-test .taken, c .before .before .before .before .before .before .before .before .before .before .before .before .before .before .before .before .before .good))
     (λ c. omega (arith, c .before .before .before .before .before .before .before .before .before .before .loop-test .taken))

@@ -4,7 +4,7 @@ use mathlib.Core.Path.{refl, _∙_}
 use native.Mathlib.Omega.{arith}
 use lib.ListN.{length}
 use borrow.Author.Needs.{needs}
-use Rattle.adders.specs.Heard.{reception, kept}
+use Rattle.positions.specs.Heard.{reception, kept}
 use Rattle.adders.specs.Judging.{Judged, judged-none, judged-more, judged-all}
 use Rattle.adders.proofs.judge_by.Statement.{statement}
 use Rattle.adders.proofs.judge_by.Tie as tie

@@ -1,5 +1,5 @@
 -- `combine::add_by` meets its contract: the refusal of the table, the refusal of the values, or the block added by the table.
-use Rattle.adders.specs.Heard.{Reception, Kept, reception, kept}
+use Rattle.positions.specs.Heard.{Reception, Kept, reception, kept}
 use Rattle.tables.specs.Passed.{Filled}
 use Rattle.combine.specs.Passed.{inputOf, outputOf, filled-so, table-refused, sums-kept, counts-kept, fits-table, values-refused, sums-refused, counts-refused, ready, values-done, sums-done, counts-done}
 use borrow.Author.Needs.{needs}

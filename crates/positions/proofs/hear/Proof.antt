@@ -1,4 +1,5 @@
--- `adders::hear`: a blank leaves both lists, a present value writes one place of each.
+-- `positions::hear`: a blank leaves both lists, a present value writes one place of each.
+use mathlib.Core.Logic.{_≢_}
 use mathlib.Core.Path.{refl, sym, ap}
 use native.Mathlib.Omega.{arith}
 use lib.Ieee.{nan}
@@ -6,14 +7,14 @@ use lib.ListN.{set}
 use lib.Seq.{set-getD}
 use borrow.Author.Needs.{needs}
 use borrow.Author.Tests.{eq-eqb, ne-eqb}
-use Rattle.adders.proofs.hear.Statement.{statement}
-use Rattle.adders.proofs.hear.Tie as tie
+use Rattle.positions.proofs.hear.Statement.{statement}
+use Rattle.positions.proofs.hear.Tie as tie
 
 pub hear-spec : {M : Type 1} → statement M
 hear-spec =
     tie.close
     (tie.spec
-    (λ c. rw (ne-eqb _ _ (c .if1 .taken)) (sym (set-getD _ _ nan), sym (set-getD _ _ 0)))
+    (λ c. let n : c .before .before .before .args .p ≢ 1 = c .if1 .taken in rw (ne-eqb _ _ n) (sym (set-getD _ _ nan), sym (set-getD _ _ 0)))
     (λ c. search needs)
     (λ c. search needs)
     (λ c. search needs)

@@ -1,5 +1,5 @@
 -- What one position becomes by one reception, in the sentences of change request 2.
-use Prim.Native.Nat.{ℕ, _+_, _≤_}
+use Prim.Native.Nat.{ℕ, _+_, _≤_, _<_}
 use mathlib.Core.Bool.{Bool, true, false, cond, not, _&&_, _||_, false≢true}
 use mathlib.Core.List.{List}
 use mathlib.Core.Logic.{_≢_}
@@ -9,10 +9,10 @@ use native.Mathlib.Omega.{arith}
 use lib.Dec.{eqb, ltb}
 use lib.Ieee.{Float, nan, add, binary32}
 use lib.Ieee.Scale.{finite}
-use lib.ListN.{getD}
+use lib.ListN.{length, getD}
 use borrow.Author.Tests.{eq-eqb, ne-eqb, le-ltb}
-use Rattle.adders.specs.declared.Running.{Running}
-use Rattle.adders.specs.Finite.{finite-parts}
+use Rattle.positions.specs.declared.Running.{Running}
+use Rattle.positions.specs.Finite.{finite-parts}
 
 -- a running sum, and how many values it is of
 abbrev pub running : Float → ℕ → Running
@@ -100,3 +100,9 @@ full-is p c h = go (eqb p 1) (ℕ-discrete c 65535)
     go true (yes e) = rw e
     go true (no n) = let z : c ≤ 65534 = omega (arith, h, n) in rw (ne-eqb c 65535 n) (sym (le-ltb 65535 (c + 1) (omega arith)))
     go false d = sym (le-ltb 65535 c h)
+
+-- a reception at position a may be made
+pub record Hears (p : ℕ) (v : Float) (a : ℕ) (h : Kept) : Type 0 where
+  pub sums : a < length (h .sums)
+  pub counts : a < length (h .counts)
+  pub spare : heard p v (held h a) .count ≤ 65535
