@@ -11,7 +11,8 @@
    out[t] = in[L(t)], deinterleaving out[L(t)] = in[t]. A buffer is a pointer and the number of its elements.
 
    The caller sees to it that no pointer is null (not even of a buffer of length 0), that each points to as much memory as its length says,
-   and that nothing a call writes overlaps anything else it is given. No call keeps a pointer, allocates, or has memory of its own but for 16 KiB
+   and that nothing a call writes overlaps anything else it is given; and, where receptions are added, that floating point rounds to nearest, keeps denormals
+   and has its exceptions masked, as at a program's start. No call keeps a pointer, allocates, or has memory of its own but for 16 KiB
    of stack: calls on different buffers may run at once. */
 #ifndef INTERLEAVER_H
 #define INTERLEAVER_H

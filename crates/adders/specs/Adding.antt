@@ -10,8 +10,8 @@ use native.Mathlib.Omega.{arith}
 use lib.Ieee.{Float, nan}
 use lib.ListN.{length, getD, set, length-set}
 use lib.Seq.{getD-set-other}
-use Rattle.laws.specs.Run.{run, length-run, getD-run}
-use Rattle.laws.specs.Move.{scatter, length-scatter}
+use Rattle.laws.specs.Run.{run, getD-run}
+use Rattle.laws.specs.Move.{scatter}
 use Rattle.laws.specs.Loop.{by, Within}
 use Rattle.positions.specs.declared.Running.{Running}
 use Rattle.positions.specs.Heard.{running, Reception, Kept, kept, held, heard, Hears}
@@ -105,6 +105,7 @@ module _ {table : List ℕ} {b : Reception} {h : Kept} (r : Ready table b h) whe
   pub added-all : {ss : List Float} {cs : List ℕ} {t : ℕ} → Added table b h ss cs t → length (b .received) ≤ t
       → (ss ≡ sumsBy (by table) (length (b .received)) b h) × (cs ≡ countsBy (by table) (length (b .received)) b h)
   added-all {ss} {cs} {t} a g =
-      let e = le-antisymm (a .far) g in
-      (a .sums ∙ ap (λ (k : ℕ). scatter (by table) k nan (newSums (by table) (length (b .received)) b h) (h .sums)) e,
-      a .counts ∙ ap (λ (k : ℕ). scatter (by table) k 0 (newCounts (by table) (length (b .received)) b h) (h .counts)) e)
+      let e = le-antisymm (a .far) g in (
+        a .sums ∙ ap (λ (k : ℕ). scatter (by table) k nan (newSums (by table) (length (b .received)) b h) (h .sums)) e,
+        a .counts ∙ ap (λ (k : ℕ). scatter (by table) k 0 (newCounts (by table) (length (b .received)) b h) (h .counts)) e,
+      )

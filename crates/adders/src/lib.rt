@@ -25,7 +25,13 @@ fn first_of(high: bool, spoiled: bool, full: bool) -> u32
 }
 
 // Judges a block against what is stored: 14, 13, 15, each over the whole block before the next; 0 where none applies.
-pub fn judge_by(table: &[u16], received: &[f32], present: &[u8], sums: &[f32], counts: &[u16]) -> u32
+pub fn judge_by(
+    table: &[u16],
+    received: &[f32],
+    present: &[u8],
+    sums: &[f32],
+    counts: &[u16],
+) -> u32
     requires { ⌜ Fitting (now table) (reception (now received) (now present)) (kept (now sums) (now counts)) ⌝ }
     ensures { λ r. ⌜ r ≡ ruled (first (valueLines (by (now (table .entry))) (length (now (received .entry)))
         (reception (now (received .entry)) (now (present .entry))) (kept (now (sums .entry)) (now (counts .entry))))) ⌝ }

@@ -1,7 +1,7 @@
 -- Repeated receptions of a block, added up: the lines of the two calls in the order of change request 2, what they have to say, and what is stored after
 -- a call.
 use Prim.Native.Nat.{ℕ}
-use mathlib.Core.Bool.{Bool, true, false, cond, not, _&&_}
+use mathlib.Core.Bool.{Bool, cond, not, _&&_}
 use mathlib.Core.List.{List, [], _∷_, _++_}
 use mathlib.Core.Path.{_≡_, refl}
 use lib.Dec.{eqb, leb}
@@ -15,7 +15,7 @@ use Rattle.sets.specs.Verdict.{refusal}
 use Rattle.families.specs.Rules.{L, M}
 use Rattle.walks.specs.Answer.{planLines}
 use Rattle.positions.specs.declared.Running.{Running}
-use Rattle.positions.specs.Heard.{running, Reception, Kept, held, heard}
+use Rattle.positions.specs.Heard.{Reception, Kept, held, heard}
 use Rattle.adders.specs.Lines.{valueLines}
 use Rattle.combine.specs.declared.Reading.{Reading}
 use Rattle.combine.specs.declared.Reading.the-variants.{Soft, Blank, Refused}

@@ -3,7 +3,7 @@
 use Prim.Native.Nat.{ℕ, _<_}
 use mathlib.Core.Bool.{false, not, _&&_}
 use mathlib.Core.List.{List}
-use mathlib.Core.Path.{_≡_, refl, sym, ap, ap₂, _∙_}
+use mathlib.Core.Path.{_≡_, ap, ap₂, _∙_}
 use native.Mathlib.Nat.{zero-add}
 use lib.Dec.{eqb}
 use lib.Ieee.{Float, nan}
@@ -21,7 +21,6 @@ use Rattle.families.specs.Rules.{L, M}
 use Rattle.walks.specs.Answer.{planLines}
 use Rattle.walks.specs.Lists.{each-once}
 use Rattle.walks.specs.Whole.{plan-accepted}
-use Rattle.positions.specs.declared.Running.{Running}
 use Rattle.positions.specs.Heard.{running, Reception, Kept, kept, held, heard}
 use Rattle.combine.specs.Answer.{lentLines, addLines, addedOf, heardIn, sumsOf, countsOf}
 

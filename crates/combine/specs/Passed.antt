@@ -1,15 +1,15 @@
 -- What stands behind each return of the two calls: the table, the judgement, the loop that adds.
-use Prim.Native.Nat.{ℕ, _≤_, _<_}
-use mathlib.Core.Bool.{Bool, true, false, cond, not, _&&_, false≢true}
-use mathlib.Core.List.{List, [], _∷_, _++_, append-assoc}
+use Prim.Native.Nat.{ℕ, _<_}
+use mathlib.Core.Bool.{Bool, true, false, cond, not, _&&_}
+use mathlib.Core.List.{List, _∷_, _++_, append-assoc}
 use mathlib.Core.Logic.{_≢_}
 use mathlib.Core.Path.{_≡_, refl, sym, ap, ap₂, _∙_}
 use native.Mathlib.Omega.{arith}
-use lib.Dec.{eqb, ltb, leb}
+use lib.Dec.{eqb}
 use lib.Ieee.{Float, nan}
 use lib.ListN.{length, getD}
 use borrow.Author.Tests.{eqb-true, eqb-false, ltb-false}
-use Rattle.laws.specs.Outcome.{Outcome, done, refused, Line, line, Ruling, clear, stopped, first, settle, judged, after, first-clear, answer-clear, clear-then, refused-front, kept-front, done-front}
+use Rattle.laws.specs.Outcome.{done, refused, Line, line, clear, stopped, first, judged, after, first-clear, refused-front, kept-front, done-front}
 use Rattle.laws.specs.Run.{run, run-same}
 use Rattle.laws.specs.Move.{scatter, scatter-same}
 use Rattle.laws.specs.Loop.{by}
@@ -21,14 +21,14 @@ use Rattle.families.specs.Rules.{L, M}
 use Rattle.walks.specs.Answer.{planLines}
 use Rattle.tables.specs.declared.Moved.{Moved}
 use Rattle.tables.specs.declared.Moved.the-variants.{Done, Refused}
-use Rattle.tables.specs.Answer.{lengthLines, blockLines, movedOf, sayMoved}
+use Rattle.tables.specs.Answer.{lengthLines, blockLines, movedOf}
 use Rattle.tables.specs.Passed.{Filled, its-perm, its-lengths, refused-answer, done-answer}
 use Rattle.positions.specs.declared.Running.{Running}
 use Rattle.positions.specs.Heard.{Reception, Kept, held, heard}
 use Rattle.adders.specs.Any.{any, any-none}
 use Rattle.adders.specs.Lines.{heardAt, isHigh, isSpoiled, isFull, valueLines, lines-same, ruled, ruled-clear, ruled-stopped}
-use Rattle.adders.specs.Adding.{Fitting, Ready, newSums, newCounts, sumsBy, countsBy}
-use Rattle.combine.specs.Answer.{bothLong, addLines, addedOf, heardIn, sumsOf, countsOf, oneOff}
+use Rattle.adders.specs.Adding.{Fitting, Ready, sumsBy, countsBy}
+use Rattle.combine.specs.Answer.{addLines, addedOf, heardIn, sumsOf, countsOf, oneOff}
 use Rattle.combine.specs.Placed.{placed}
 
 -- the one of two lengths that isn't n says whether both are

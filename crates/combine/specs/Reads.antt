@@ -1,14 +1,14 @@
 -- What stands behind each return of a reading: the walk from the first cell, which tells 1, 2, 3 and 8, then the position and the two lengths.
 use Prim.Native.Nat.{ℕ, _≤_, _<_}
-use mathlib.Core.Bool.{Bool, true, false, not, _&&_}
+use mathlib.Core.Bool.{not}
 use mathlib.Core.List.{List, [], _∷_}
 use mathlib.Core.Logic.{_≢_}
 use mathlib.Core.Path.{_≡_, sym, ap, _∙_}
-use lib.Dec.{eqb, leb}
+use lib.Dec.{leb}
 use lib.ListN.{length}
 use borrow.Author.Tests.{eq-eqb, ne-eqb, le-leb, lt-leb}
 use Rattle.laws.specs.declared.Way.the-variants.{Interleaver}
-use Rattle.laws.specs.Outcome.{Outcome, done, refused, Line, line, clear, first, clear-then, refused-front}
+use Rattle.laws.specs.Outcome.{done, refused, Line, line, clear, first, clear-then, refused-front}
 use Rattle.sets.specs.declared.Set.{Set}
 use Rattle.sets.specs.declared.Refusal.{Refusal}
 use Rattle.sets.specs.Verdict.{refusal}
@@ -16,7 +16,7 @@ use Rattle.walks.specs.Answer.{planLines, walkedOf, walkValues}
 use Rattle.walks.specs.Whole.{begin}
 use Rattle.tables.specs.Passed.{walked-refused}
 use Rattle.positions.specs.Heard.{Kept, held}
-use Rattle.combine.specs.Answer.{Held, toldOf, bothLong, readLines, readOf, oneOff}
+use Rattle.combine.specs.Answer.{toldOf, bothLong, readLines, readOf, oneOff}
 use Rattle.combine.specs.Passed.{off-both}
 
 module _ (s : Set) (h : Kept) (k : ℕ) where

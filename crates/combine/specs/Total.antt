@@ -3,7 +3,7 @@ use Prim.Native.Nat.{ℕ, zero, suc, _+_, _≤_, _<_}
 use mathlib.Core.Bool.{Bool, true, false, cond}
 use mathlib.Core.List.{List, [], _∷_}
 use mathlib.Core.Logic.{_≢_}
-use mathlib.Core.Path.{_≡_, refl, sym, ap, ap₂, _∙_}
+use mathlib.Core.Path.{_≡_, refl, sym, ap, _∙_}
 use native.Mathlib.Nat.{zero-add}
 use native.Mathlib.Omega.{arith}
 use lib.Dec.{eqb}
@@ -70,9 +70,9 @@ module _ (s : Set) (b : Reception) (h : Kept) (e : addedOf s b h ≡ done tt) wh
   rises (suc j) l =
       let c = getD (h .counts) (L s j) 0 in
       let below : L s j < length (scatter (L s) j 0 news (h .counts)) =
-        omega (arith, its-perm s b h e .l-below j l, length-scatter (L s) j 0 news (h .counts), its-lengths s b h e .counts) in
+      omega (arith, its-perm s b h e .l-below j l, length-scatter (L s) j 0 news (h .counts), its-lengths s b h e .counts) in
       let new : getD news j 0 ≡ c + one (getD (b .present) j 0) =
-        getD-run (λ t. heardAt (L s) b h t .count) 0 (s .n) j 0 l ∙ ap (λ (t : ℕ). heardAt (L s) b h t .count) (zero-add j) ∙ count-rise (getD (b .present) j 0) c in
+      getD-run (λ t. heardAt (L s) b h t .count) 0 (s .n) j 0 l ∙ ap (λ (t : ℕ). heardAt (L s) b h t .count) (zero-add j) ∙ count-rise (getD (b .present) j 0) c in
       let old : getD (scatter (L s) j 0 news (h .counts)) (L s j) 0 ≡ c = unmet (L s) j 0 news (h .counts) (L s j) fresh in
       omega (arith, total-set (scatter (L s) j 0 news (h .counts)) (L s j) (getD news j 0) below, new, old, rises j (omega arith))
     where

@@ -35,7 +35,14 @@ fn off(n: usize, a: usize, b: usize) -> usize
 }
 
 // Adds a block by a lent table.
-fn add_by(set: Set, table: &mut [u16], received: &[f32], present: &[u8], sums: &mut [f32], counts: &mut [u16]) -> Moved
+fn add_by(
+    set: Set,
+    table: &mut [u16],
+    received: &[f32],
+    present: &[u8],
+    sums: &mut [f32],
+    counts: &mut [u16],
+) -> Moved
     requires { ⌜ Roomy set (now table) ⌝ }
     ensures answer { λ r. ⌜ sayMoved r ≡ addedOf set
         (reception (now (received .entry)) (now (present .entry))) (kept (now (sums .entry)) (now (counts .entry))) ⌝ }
@@ -62,7 +69,13 @@ fn add_by(set: Set, table: &mut [u16], received: &[f32], present: &[u8], sums: &
 
 // Adds a received block to what is stored: value t at input index L(t). A blank changes nothing; the first present value is stored as it is, count 1;
 // later ones are added with one rounding each, and the count rises by one. Refusals 1, 2, 3, 8, 5, 6, 14, 13, 15.
-pub fn add(set: Set, received: &[f32], present: &[u8], sums: &mut [f32], counts: &mut [u16]) -> Moved
+pub fn add(
+    set: Set,
+    received: &[f32],
+    present: &[u8],
+    sums: &mut [f32],
+    counts: &mut [u16],
+) -> Moved
     ensures answer { λ r. ⌜ sayMoved r ≡ addedOf set
         (reception (now (received .entry)) (now (present .entry))) (kept (now (sums .entry)) (now (counts .entry))) ⌝ }
     ensures sums { λ r. ⌜ now (sums .exit) ≡ sumsOf set

@@ -43,6 +43,7 @@ module _ (s : Set) (h : Kept) where
       → (sumOut (readOf s h x) sum ≡ after (readLines s h x) (sumHeld sum (toldOf (held h x))) sum)
       × (countOut (readOf s h x) count ≡ after (readLines s h x) (countHeld (toldOf (held h x))) count)
   unfolding readOf
-  read-outs x sum count =
-      (out-is-after (refusal s) (readLines s h x) (toldOf (held h x)) (sumHeld sum) sum,
-      out-is-after (refusal s) (readLines s h x) (toldOf (held h x)) countHeld count)
+  read-outs x sum count = (
+    out-is-after (refusal s) (readLines s h x) (toldOf (held h x)) (sumHeld sum) sum,
+    out-is-after (refusal s) (readLines s h x) (toldOf (held h x)) countHeld count,
+  )

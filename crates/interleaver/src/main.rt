@@ -84,6 +84,17 @@ fn fill_stream(way: Way, line: &[u8]) {
     filters::streamed::through(way, fill as u8);
 }
 
+// Receptions from files, added up.
+fn combine(line: &[u8]) {
+    if !receptions::in_form() {
+        told::usage(Command::Combine);
+        return;
+    }
+    if let SetAsked::Given(set) = asked::set(line) {
+        receptions::from_files(set);
+    }
+}
+
 // Answers a question that is in form.
 fn ask(c: Command, line: &[u8]) {
     match c {
@@ -119,8 +130,11 @@ fn answer_line(line: &[u8]) {
     }
     let c = told::named(word(line, 0));
     match c {
-        Command::Interleave | Command::Deinterleave | Command::Dvb | Command::Lines =>
-            told::expected(b"a question, as lines answers only those"),
+        Command::Interleave
+        | Command::Deinterleave
+        | Command::Dvb
+        | Command::Combine
+        | Command::Lines => told::expected(b"a question, as lines answers only those"),
         _ => {
             if told::in_form(c, line) {
                 ask(c, line);
@@ -143,6 +157,7 @@ fn obey(line: &[u8]) {
         Command::Interleave => move_blocks(Way::Interleaver, line),
         Command::Deinterleave => move_blocks(Way::Deinterleaver, line),
         Command::Dvb => move_stream(line),
+        Command::Combine => combine(line),
         _ => ask(c, line),
     }
 }

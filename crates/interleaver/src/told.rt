@@ -19,6 +19,7 @@ pub enum Command {
     Interleave,
     Deinterleave,
     Dvb,
+    Combine,
     Unknown,
 }
 
@@ -70,6 +71,9 @@ fn moving(w: &[u8]) -> Command {
     if same(w, b"dvb") {
         return Command::Dvb;
     }
+    if same(w, b"combine") {
+        return Command::Combine;
+    }
     Command::Unknown
 }
 
@@ -91,6 +95,7 @@ pub fn in_form(c: Command, line: &[u8]) -> bool {
         Command::At | Command::To => has(line, 5),
         Command::Walk => has(line, 6),
         Command::Interleave | Command::Deinterleave => has(line, 4) | has(line, 5),
+        Command::Combine => word(line, 4).len() > 0,
         Command::Unknown => false,
         _ => has(line, 4),
     }
@@ -124,8 +129,11 @@ pub fn usage(c: Command) {
         Command::Interleave => expected(b"interleave PROFILE BITS N [WIDTH]"),
         Command::Deinterleave => expected(b"deinterleave PROFILE BITS N [WIDTH]"),
         Command::Dvb => expected(b"dvb interleave FILL or dvb deinterleave FILL"),
+        Command::Combine => expected(
+            b"combine PROFILE BITS N FILE ..., each an argument of its own",
+        ),
         Command::Unknown => expected(
-            b"one of help, test, profiles, list, back, at, to, walk, picture, lines, interleave, deinterleave, dvb",
+            b"one of help, test, profiles, list, back, at, to, walk, picture, lines, interleave, deinterleave, dvb, combine",
         ),
     }
 }
@@ -133,6 +141,6 @@ pub fn usage(c: Command) {
 pub fn help() {
     words::text::write(
         STDOUT_FILENO,
-        b"interleaver: block interleavers of IEEE 802.11a, IEEE 802.16 and 3GPP WCDMA, and the DVB byte stream.\n\nQuestions, answered on standard output; a refusal is a line such as `refused 3`:\n  test PROFILE BITS N             accepted, or the refusal\n  profiles                        what each profile admits, as a table\n  list PROFILE BITS N             L: for each output position its input index, one a line\n  back PROFILE BITS N             M: for each input index its output position (profiles 1 to 4)\n  at PROFILE BITS N T             L(T): the input index that output T holds\n  to PROFILE BITS N K             M(K): the output position of input K\n  walk PROFILE BITS N CELL ROOM   at most ROOM entries of L from a cell on, then a line\n                                  `written W next C cells E`; go on with CELL = C\n  picture PROFILE BITS N          the permutation as an SVG\n  lines                           the same, a question a line, from standard input\n                                  (each line shorter than 512 bytes)\n\nFilters, standard input to standard output:\n  interleave PROFILE BITS N [WIDTH]     block after block of N symbols of WIDTH bytes (1 to 8; left out, 1);\n  deinterleave PROFILE BITS N [WIDTH]   an f32 is 4, moved bit for bit. A short last block: `refused 5`\n                                        on standard error, and nothing of it is written\n  dvb interleave FILL                   a byte stream, in a machine that starts with FILL (0 to 255);\n  dvb deinterleave FILL                 out as long as in: through both, it comes back\n                                        2,244 bytes late, and the last 2,244 stay inside\n\nRefusals: 1 profile, 2 bits, 3 N not listed; 4 position N or more; 5 input of another length; 9 cell past\nthe end. Exit status: 0, also where a question is answered by a refusal; 1 where anything was said on standard\nerror; 2 where the program cannot be built.\n\nExamples:\n  ./interleaver at 3 4 192 13                                   prints 1: output 13 holds input 1\n  ./interleaver picture 3 6 288 > wlan.svg                      a picture of IEEE 802.11a's 64-QAM block\n  ./interleaver interleave 3 6 288 < samples/bulletin.txt | ./interleaver deinterleave 3 6 288\n",
+        b"interleaver: block interleavers of IEEE 802.11a, IEEE 802.16 and 3GPP WCDMA, and the DVB byte stream.\n\nQuestions, answered on standard output; a refusal is a line such as `refused 3`:\n  test PROFILE BITS N             accepted, or the refusal\n  profiles                        what each profile admits, as a table\n  list PROFILE BITS N             L: for each output position its input index, one a line\n  back PROFILE BITS N             M: for each input index its output position (profiles 1 to 4)\n  at PROFILE BITS N T             L(T): the input index that output T holds\n  to PROFILE BITS N K             M(K): the output position of input K\n  walk PROFILE BITS N CELL ROOM   at most ROOM entries of L from a cell on, then a line\n                                  `written W next C cells E`; go on with CELL = C\n  picture PROFILE BITS N          the permutation as an SVG\n  lines                           the same, a question a line, from standard input\n                                  (each line shorter than 512 bytes)\n\nFilters, standard input to standard output:\n  interleave PROFILE BITS N [WIDTH]     block after block of N symbols of WIDTH bytes (1 to 8; left out, 1);\n  deinterleave PROFILE BITS N [WIDTH]   an f32 is 4, moved bit for bit. A short last block: `refused 5`\n                                        on standard error, and nothing of it is written\n  dvb interleave FILL                   a byte stream, in a machine that starts with FILL (0 to 255);\n  dvb deinterleave FILL                 out as long as in: through both, it comes back\n                                        2,244 bytes late, and the last 2,244 stay inside\n\nReceptions, from files; a refusal is an answer, as to a question:\n  combine PROFILE BITS N FILE ...       receptions of one block added up. A FILE is one: N f32 values in output\n                                        order, 4 bytes each, little end first, a blank as not-a-number. Then for\n                                        each input index `INDEX SUM COUNT`, the f32 SUM written exactly, or\n                                        `INDEX blank`\n\nRefusals: 1 profile, 2 bits, 3 N not listed; 4 position N or more; 5 input of another length; 9 cell past\nthe end; 13 a value or a sum not finite; 15 a count past 65,535. Exit status: 0, also where a question is answered\nby a refusal; 1 where anything was said on standard error; 2 where the program cannot be built.\n\nExamples:\n  ./interleaver at 3 4 192 13                                   prints 1: output 13 holds input 1\n  ./interleaver picture 3 6 288 > wlan.svg                      a picture of IEEE 802.11a's 64-QAM block\n  ./interleaver interleave 3 6 288 < samples/bulletin.txt | ./interleaver deinterleave 3 6 288\n  ./interleaver combine 3 6 288 samples/reception?.f32          three receptions of one block\n",
     );
 }

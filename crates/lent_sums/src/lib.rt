@@ -61,5 +61,9 @@ pub fn read(
     ensures count { λ r. ⌜ now (count .exit)
         ≡ countOut (lentReading (now (set .entry)) (now (sums .entry)) (now (counts .entry)) position) (now (count .entry)) ⌝ }
 {
-    taken(combine::read(flat::set_of(set), sums, counts, position), sum, count)
+    taken(
+        combine::read(flat::set_of(set), sums, counts, position),
+        sum,
+        count,
+    )
 }

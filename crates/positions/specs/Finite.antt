@@ -3,7 +3,6 @@ use Prim.Native.Nat.{ℕ, suc, _+_, _-_, _*_, _^_}
 use mathlib.Core.Bool.{Bool, true, false, not, cond, _&&_, _||_, Bool·beq, false≢true}
 use mathlib.Core.Path.{_≡_, refl, sym, subst}
 use lib.Dec.{eqb, ltb}
-use lib.IntN.{ℤ}
 use lib.Ieee.{Float, nan, inf, fin, Format, eq, sub, add, neg, sum, round, units, odd, up, down, low, prec, emax}
 use lib.Ieee.Scale.{finite}
 use lib.Ieee.Fits.{round-is}

@@ -1,12 +1,11 @@
 -- Change request 2, repeated receptions added up, over the definitions that the two calls' contracts cite: addedOf, sumsOf and countsOf of `combine::add`,
 -- readOf of `combine::read`. A Reception is a received block and its presence bytes, in output order; a Kept is the stored sums and counts, by input index.
 use Prim.Native.Nat.{ℕ, _+_, _*_, _≤_, _<_}
-use mathlib.Core.Bool.{Bool, true, false}
+use mathlib.Core.Bool.{Bool}
 use mathlib.Core.List.{List}
 use mathlib.Core.Logic.{_↔_, _≢_}
-use mathlib.Core.Path.{_≡_, refl, sym, ap, ap₂, _∙_}
-use native.Mathlib.Omega.{arith}
-use lib.IntN.{ℤ, pos}
+use mathlib.Core.Path.{_≡_, sym, ap, ap₂, _∙_}
+use lib.IntN.{pos}
 use lib.Ieee.{Float, nan, fin, add, binary32}
 use lib.ListN.{length, getD}
 use borrow.Author.Tests.{eq-eqb, ne-eqb}
@@ -17,7 +16,7 @@ use Rattle.laws.specs.Told.{NoneTrue}
 use Rattle.sets.specs.declared.Set.{Set}
 use Rattle.sets.specs.Verdict.{refusal}
 use Rattle.positions.specs.declared.Running.{Running}
-use Rattle.positions.specs.Heard.{running, Reception, reception, Kept, kept, held, heard, later}
+use Rattle.positions.specs.Heard.{running, Reception, reception, Kept, held, heard, later}
 use Rattle.blocks.specs.Answer.{moved}
 use Rattle.combine.specs.Answer.{addedOf, sumsOf, countsOf, soft, blank, readOf, toldOf}
 use Rattle.combine.specs.Laws as laws
@@ -29,7 +28,7 @@ use Rattle.combine.specs.Total.{total, presentIn}
 use Rattle.combine.specs.Calls.{addAll, wentTo, sumBy, counted}
 use Rattle.combine.specs.Eighths.{Worth}
 use Rattle.combine.specs.Exact.{Eighths, sum-exact}
-use Rattle.tender.specs.Condition2.{Listed, admits, L, M, target-back}
+use Rattle.tender.specs.Condition2.{Listed, admits, L, target-back}
 
 -- a number is said exactly when its sentence is the first that holds: 1, 2, 3, 8, 5, 6, 14, 13, 15 for a block, 1, 2, 3, 8, 4, 6 for a position
 pub refusal-order-add : (s : Set) (b : Reception) (h : Kept) (k : ℕ) → (addedOf s b h ≡ refused (refusal s k)) ↔ FirstTrue (addSentences s b h) k
@@ -103,9 +102,10 @@ module _ (s : Set) (b : Reception) (h : Kept) (listed : Listed s) (e : addedOf s
   pub zero-counts : (sign : Bool) → getD (b .received) t nan ≡ fin sign 0 (pos 0) → getD (b .present) t 0 ≡ 1
       → (held (keptAfter s b h) (L s t) .count ≡ held h (L s t) .count + 1)
       × (held h (L s t) .count ≡ 0 → readOf s (keptAfter s b h) (L s t) ≡ done (soft (running (fin sign 0 (pos 0)) 1)))
-  zero-counts sign z p =
-      (ap (λ (r : Running). r .count) (laws.goes-to s b h e t l) ∙ rw p,
-      λ c. reads ∙ ap (λ (r : Running). done (toldOf r)) (first-stored s b h e t l p c ∙ ap (λ (v : Float). running v 1) z))
+  zero-counts sign z p = (
+    ap (λ (r : Running). r .count) (laws.goes-to s b h e t l) ∙ rw p,
+    λ c. reads ∙ ap (λ (r : Running). done (toldOf r)) (first-stored s b h e t l p c ∙ ap (λ (v : Float). running v 1) z),
+  )
 
   pub blank-reads : getD (b .present) t 0 ≡ 0 → held h (L s t) .count ≡ 0 → readOf s (keptAfter s b h) (L s t) ≡ done blank
   blank-reads p c = reads ∙ ap (λ (r : Running). done (toldOf r)) (blank-keeps s b h e t l p) ∙ rw c

@@ -1,0 +1,188 @@
+// `combine`: receptions of a block, each from a file, added up; then what each position holds, by input index, with its sum exactly.
+mod decimal; // decimal.rt: an f32 in decimal, exactly
+mod files; // files.rt: the bytes of a file
+mod values; // values.rt: the values of a reception, and which are there
+
+use combine::Reading;
+use decimal::PLACES;
+use files::Got;
+use libc::STDOUT_FILENO;
+use lines::word;
+use sets::Set;
+use sets::Verdict;
+use tables::LARGE;
+use tables::Moved;
+use words::text::ROOM;
+use words::text::put;
+use words::text::put_number;
+ghost use Prim.Native.Nat.{_≤_};
+
+// The argument that names the first file: `combine` is argument 1.
+const FIRST: usize = 5;
+
+// The values of a file that are looked at, and their bytes: at most one more than the longest block has.
+const VALUES: usize = 6145;
+
+const BYTES: usize = 24580;
+
+fn refused(number: u32) {
+    words::text::say_line(STDOUT_FILENO, b"refused ", number as u64);
+}
+
+// Whether a reception was added, or else its refusal.
+fn is_done(m: Moved) -> bool {
+    match m {
+        Moved::Done => true,
+        Moved::Refused(x) => {
+            refused(x.number);
+            false
+        }
+    }
+}
+
+// The first n values, or all where there are fewer.
+fn first(s: &[f32], n: usize) -> &[f32] {
+    if n <= s.len() {
+        return &s[..n];
+    }
+    s
+}
+
+// Adds the first k of the values. Answers whether to go on.
+fn add_first(
+    set: Set,
+    k: usize,
+    received: &[f32; VALUES],
+    present: &[u8; VALUES],
+    sums: &mut [f32],
+    counts: &mut [u16],
+) -> bool {
+    is_done(combine::add(
+        set,
+        first(received, k),
+        lines::first(present, k),
+        sums,
+        counts,
+    ))
+}
+
+// Adds k values of what a file holds.
+fn add_values(set: Set, k: usize, bytes: &[u8; BYTES], sums: &mut [f32], counts: &mut [u16]) -> bool
+    requires { ⌜ k ≤ 6145 ⌝ }
+{
+    let mut received = [0.0f32; VALUES];
+    let mut present = [0u8; VALUES];
+    values::decode(k, bytes, &mut received, &mut present);
+    add_first(set, k, &received, &present, sums, counts)
+}
+
+// Adds the file that argument i names, of which no more is looked at than tells whether it is too long.
+fn add_file(set: Set, i: usize, sums: &mut [f32], counts: &mut [u16]) -> bool {
+    let mut bytes = [0u8; BYTES];
+    let n = values::size_of(set.n);
+    let most = 4 * n + 4;
+    match files::read(i, &mut bytes[..most]) {
+        Got::Failed => false,
+        Got::Bytes(k) => add_values(set, values::count(k, n), &bytes, sums, counts),
+    }
+}
+
+// Adds file after file. Answers whether all were added.
+fn add_files(set: Set, sums: &mut [f32], counts: &mut [u16]) -> bool {
+    let n = os::arg_count();
+    let mut i = FIRST;
+    while i < n {
+        if !add_file(set, i, sums, counts) {
+            return false;
+        }
+        i += 1;
+    }
+    true
+}
+
+// A number and what follows it.
+fn put_with(room: &mut [u8; ROOM], from: usize, n: u64, s: &[u8]) -> usize {
+    let at = put_number(room, from, n);
+    put(room, at, s)
+}
+
+fn rest(s: &[u8], from: usize) -> &[u8] {
+    if from <= s.len() {
+        return &s[from..];
+    }
+    s
+}
+
+fn put_rest(room: &mut [u8; ROOM], from: usize, text: &[u8; PLACES], start: usize) -> usize {
+    put(room, from, rest(text, start))
+}
+
+fn put_sum(room: &mut [u8; ROOM], from: usize, sum: f32) -> usize {
+    let mut text = [b'0'; PLACES];
+    let start = decimal::spell_f32(sum, &mut text);
+    put_rest(room, from, &text, start)
+}
+
+fn put_soft(room: &mut [u8; ROOM], from: usize, k: u32, sum: f32, count: u16) -> usize {
+    let mut at = put_with(room, from, k as u64, b" ");
+    at = put_sum(room, at, sum);
+    at = put(room, at, b" ");
+    put_with(room, at, count as u64, b"\n")
+}
+
+// The line of position k. (None is refused: the set was accepted when the files were added.)
+fn put_reading(room: &mut [u8; ROOM], from: usize, k: u32, r: Reading) -> usize {
+    match r {
+        Reading::Soft(x) => put_soft(room, from, k, x.sum, x.count),
+        Reading::Blank => put_with(room, from, k as u64, b" blank\n"),
+        Reading::Refused(_) => from,
+    }
+}
+
+// What each position holds, a line each.
+fn show(set: Set, sums: &[f32], counts: &[u16]) {
+    let mut room = [0u8; ROOM];
+    let mut at = 0;
+    let mut k = 0;
+    while k < set.n {
+        let r = combine::read(set, sums, counts, k);
+        at = put_reading(&mut room, at, k, r);
+        k += 1;
+    }
+    words::text::flush(&room, at);
+}
+
+fn add_and_show(set: Set, sums: &mut [f32], counts: &mut [u16]) {
+    if add_files(set, sums, counts) {
+        show(set, sums, counts);
+    }
+}
+
+fn has_one(s: &[u8]) -> bool {
+    (word(s, 0).len() > 0) & (word(s, 1).len() == 0)
+}
+
+// Whether argument i is one word.
+fn is_word(i: usize) -> bool {
+    let mut one = [0u8; 48];
+    let k = os::arg(i, &mut one);
+    has_one(&one[..k])
+}
+
+// Whether each word before the files is an argument of its own, and there is a file: then the files are the arguments from FIRST on.
+pub fn in_form() -> bool {
+    (os::arg_count() > FIRST) & (is_word(1) & is_word(2) & (is_word(3) & is_word(4)))
+}
+
+// `combine`, of the files that the arguments name.
+pub fn from_files(set: Set) {
+    match sets::test(set) {
+        Verdict::Refused(x) => refused(x.number),
+        Verdict::Accepted => {
+            let mut sums = [0.0f32; LARGE];
+            let mut counts = [0u16; LARGE];
+            let n = values::size_of(set.n);
+            add_and_show(set, &mut sums[..n], &mut counts[..n]);
+        }
+    }
+}
