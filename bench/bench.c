@@ -1,10 +1,10 @@
-/* The harness: the rows of the table, the comparison of the sides, and their times. Every side is called through a pointer, across object
-   files. bench/run starts it:
+/* The harness: the rows of the table, a row by one side, and its times; check.c compares the sides. Every side is called through a pointer, across
+   object files. bench/run starts it:
      bench rows                   a line for each row: its number, its addresses, bytes, values or positions, its name
      bench check                  compares each side's output with ours; ends with one line and status 1 where one differs
      bench repeat ROW SIDE TIMES  runs one side of a row so often, to have its instructions counted
      bench time ROW ROUNDS MS     prints ours/dividing and ours/stepping: the best of so many rounds, each of at least so many milliseconds */
-#include "plain.h"
+#include "bench.h"
 
 walk_call interleaver_walk_l;
 move_call interleaver_interleave_bytes, interleaver_interleave_soft;
@@ -13,10 +13,6 @@ read_call interleaver_read_sum;
 feed_call interleaver_dvb_interleave, interleaver_dvb_deinterleave;
 uint32_t interleaver_dvb_start(uint8_t *store, size_t, uint8_t fill, uint32_t *phase);
 
-enum { OURS, DIVIDE, STEP, SIDES };
-static const char *const side_names[SIDES] = {"ours", "the C that divides", "the C that steps"};
-
-enum kind { WALK, WRITTEN_OUT, BYTES, SOFT, FEED, FEED_BACK, ADD, ADD_SOME, READ };
 static walk_call *const walks[][SIDES] = {
     [WALK] = {interleaver_walk_l, divide_walk, step_walk},
     [WRITTEN_OUT] = {interleaver_walk_l, divide_walk_written_out, step_walk_written_out},
@@ -31,11 +27,9 @@ static feed_call *const feeds[][SIDES] = {
 };
 
 static add_call *const adds[SIDES] = {interleaver_add_received, divide_add, step_add};
-static read_call *const reads[SIDES] = {interleaver_read_sum, plain_read, plain_read};
+read_call *const reads[SIDES] = {interleaver_read_sum, plain_read, plain_read};
 
-/* A row: some sets in a row from the list of sets, the room of a walk (0: a whole block), or the length of a feed. */
-struct row { enum kind kind; uint32_t from, sets, length; char name[80]; };
-static struct set sets[32];
+struct set sets[32];
 static struct row rows[64];
 static uint32_t set_count, row_count, shown; /* the rows from `shown` on are compared, and are not in the table */
 
@@ -91,27 +85,12 @@ static void lay_out(void)
     add_row(WALK, TURBO_5114 + 1, 3, 7, "walk, full rectangles", ", slices of 7");
 }
 
-/* What a side writes to. The input is the same for all. */
-enum { LIST = 8192, BYTE = 65536, MOST = 5114 };
-struct area {
-    _Alignas(64) uint16_t list[LIST];
-    _Alignas(64) uint8_t bytes[BYTE];
-    _Alignas(64) uint8_t store[STORE];
-    _Alignas(64) float sums[MOST];
-    _Alignas(64) uint16_t counts[MOST];
-    float sum;
-    uint16_t count;
-    uint32_t record[RECORD], cell, cells, turn;
-};
-static struct area areas[SIDES];
-static _Alignas(64) uint8_t input[BYTE];
+struct area areas[SIDES];
+_Alignas(64) uint8_t input[BYTE];
+_Alignas(64) float received[2][MOST];
+_Alignas(64) uint8_t present[2][MOST];
 
-/* Received blocks, in whole eighths: one, and the same with the other sign, in turns, so that the sums stay where they are. Presence bytes: all 1,
-   and a fifth of them 0. */
-static _Alignas(64) float received[2][MOST];
-static _Alignas(64) uint8_t present[2][MOST];
-
-static void receive(void)
+void receive(void)
 {
     uint32_t x = 1;
     for (int t = 0; t < MOST; t++) {
@@ -123,8 +102,7 @@ static void receive(void)
     }
 }
 
-/* Starts a side's stream, or its sums: 1 everywhere, of one value. */
-static void start(const struct row *r, int side)
+void start(const struct row *r, int side)
 {
     struct area *a = areas + side;
     a->turn = 0;
@@ -169,8 +147,7 @@ static uint32_t read_set(int side, const struct set *set, struct area *a)
     return refused;
 }
 
-/* A row once, by one side: 0, or the number of a refusal. */
-static uint32_t once(const struct row *r, int side)
+uint32_t once(const struct row *r, int side)
 {
     struct area *a = areas + side;
     if (r->kind == FEED || r->kind == FEED_BACK)
@@ -196,111 +173,6 @@ static uint32_t amount(const struct row *r)
     for (uint32_t i = 0; i < r->sets; i++)
         sum += sets[r->from + i].n;
     return sum;
-}
-
-/* The first byte in which a side's area is not as ours, without the record, which is each side's own; or -1. */
-static long differs(int side)
-{
-    const uint8_t *got = (const uint8_t *)(areas + side), *ours = (const uint8_t *)(areas + OURS);
-    for (size_t i = 0; i < sizeof(struct area); i++)
-        if (got[i] != ours[i] && (i < offsetof(struct area, record) || i >= offsetof(struct area, cell)))
-            return (long)i;
-    return -1;
-}
-
-static int complain(const struct row *r, int side, long at)
-{
-    static const struct { size_t from; const char *name; } parts[] = {
-        {offsetof(struct area, cell), "the cells"}, {offsetof(struct area, sum), "the reading"}, {offsetof(struct area, counts), "the counts"},
-        {offsetof(struct area, sums), "the sums"}, {offsetof(struct area, store), "the store"}, {offsetof(struct area, bytes), "the output"}};
-    size_t i = (size_t)at, part = 0;
-    if (i < offsetof(struct area, bytes))
-        return printf("bench: %s: %s has address %u at place %zu, ours %u\n", r->name, side_names[side], areas[side].list[i / 2], i / 2,
-                      areas[OURS].list[i / 2]), 1;
-    while (i < parts[part].from)
-        part++;
-    return printf("bench: %s: %s differs from ours at byte %zu of %s\n", r->name, side_names[side], i - parts[part].from, parts[part].name), 1;
-}
-
-/* A row once by every side: whether one does not say the number, or leaves something else than ours. */
-static int unlike(const struct row *r, uint32_t number)
-{
-    for (int side = 0; side < SIDES; side++) {
-        uint32_t said = once(r, side);
-        if (said != number)
-            return printf("bench: %s: %s says %u, not %u\n", r->name, side_names[side], said, number), 1;
-    }
-    for (int side = DIVIDE; side < SIDES; side++)
-        if (differs(side) >= 0)
-            return complain(r, side, differs(side));
-    return 0;
-}
-
-static void count_all(uint32_t n, uint16_t count)
-{
-    for (int side = 0; side < SIDES; side++)
-        for (uint32_t k = 0; k < n; k++)
-            areas[side].counts[k] = count;
-}
-
-/* First receptions too, where the counts are 0; then one fault upon the other: full counts, an infinity, a presence byte. Then blanks alone, which
-   full counts bear, and an infinite sum does not. */
-static int check_add(const struct row *r)
-{
-    uint32_t n = sets[r->from].n;
-    count_all(n, 0);
-    int wrong = unlike(r, 0) || unlike(r, 0);
-    count_all(n, 65535);
-    wrong = wrong || unlike(r, 15);
-    received[0][n - 1] = received[1][n - 1] = __builtin_inff();
-    present[0][n - 1] = present[1][n - 1] = 1;
-    wrong = wrong || unlike(r, 13);
-    present[0][n - 1] = present[1][n - 1] = 2;
-    wrong = wrong || unlike(r, 14);
-    memset(present, 0, sizeof present);
-    wrong = wrong || unlike(r, 0);
-    for (int side = 0; side < SIDES; side++)
-        areas[side].sums[n / 2] = __builtin_inff();
-    wrong = wrong || unlike(r, 13);
-    receive();
-    return wrong;
-}
-
-/* Each position by itself, every third a blank. */
-static int check_read(const struct row *r)
-{
-    const struct set *s = sets + r->from;
-    for (uint32_t k = 0; k < s->n; k++)
-        for (int side = 0; side < SIDES; side++) {
-            struct area *a = areas + side;
-            a->sums[k] = k, a->counts[k] = k % 3;
-            if (reads[side](s, a->sums, s->n, a->counts, s->n, k, &a->sum, &a->count) != 0 || a->sum != areas[OURS].sum ||
-                a->count != areas[OURS].count)
-                return printf("bench: %s: %s reads position %u otherwise than ours\n", r->name, side_names[side], k), 1;
-        }
-    return 0;
-}
-
-/* Each set of a row by itself, and of a stream a few short feeds first, so that a feed begins in the middle. */
-static int check(const struct row *whole)
-{
-    static const uint32_t before[] = {1, 5, 203, 24, 1999, 0};
-    uint32_t parts = whole->sets != 0 ? whole->sets : sizeof before / sizeof *before;
-    for (uint32_t i = 0, x = 1; i < BYTE; i++, x = x * 1664525 + 1013904223)
-        input[i] = (uint8_t)(x >> 24);
-    memset(areas, 0xa5, sizeof areas); /* so that what is not to be written shows */
-    for (int side = 0; side < SIDES; side++)
-        start(whole, side);
-    for (uint32_t i = 0; i < parts; i++) {
-        struct row r = *whole;
-        if (whole->sets != 0)
-            r.from += i, r.sets = 1;
-        else if (before[i] != 0)
-            r.length = before[i];
-        if (unlike(&r, 0))
-            return 1;
-    }
-    return whole->kind == READ ? check_read(whole) : whole->kind >= ADD ? check_add(whole) : 0;
 }
 
 /* In the processor's time of this process, so that another program's turn on the machine is not in it. */

@@ -1,6 +1,6 @@
 /* Tests every call of interleaver.h: the starred addresses of the documents, each refusal that can be reached, out-parameters and buffers left alone by
-   a refused call, walks and streams cut into parts, and the bits of floats. Prints a line for each failure, and the sum. This file: the test of a
-   set, and one address. */
+   a refused call, walks and streams cut into parts, receptions added up and read, and the bits of floats. Prints a line for each failure, and the
+   sum. This file: the test of a set, and one address. */
 #include "test.h"
 
 static unsigned passed, failed;

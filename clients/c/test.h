@@ -23,6 +23,44 @@ uint32_t at_m(interleaver_set set, uint32_t k);
 uint8_t byte_of(uint32_t i); /* a byte for each place */
 int all_bytes(const uint8_t *p, size_t n, uint8_t x); /* whether n bytes are all x */
 
+/* Receptions: what is stored, between guards, and a copy of it from before a call. A sum and a value are given by their bits, position k is an
+   input index, place t an output index. */
+extern struct stored {
+    uint8_t before[64];
+    float sums[MAX + 1];
+    uint8_t between[64];
+    uint16_t counts[MAX + 1];
+    uint8_t behind[64];
+} now, kept;
+extern uint8_t present[MAX + 1];
+
+enum { ABSENT, PRESENT, FULL = 65535, SPOILT = 10 };
+#define ONE 0x3f800000u
+#define TWO 0x40000000u
+#define FIVE 0x40a00000u
+#define QUIET 0x7fc12345u
+extern const uint32_t spoilt[SPOILT]; /* signalling and quiet NaNs of both signs, and the infinities */
+
+uint32_t bits_of(const float *x);
+void hold(uint32_t k, uint32_t sum, uint16_t count);
+void hear(uint32_t t, uint32_t value, uint8_t there);
+int holds(uint32_t k, uint32_t sum, uint16_t count);
+
+/* the same at every position, and the same received at each */
+void all(interleaver_set set, uint32_t sum, uint16_t count, uint32_t value, uint8_t there);
+
+uint32_t add_with(interleaver_set set, const size_t *length); /* an add with lengths of their own: of received, present, sums and counts */
+uint32_t add(interleaver_set set);
+int same(void);
+
+/* whether the add came to that at position k, and left everything else alone */
+int adds(interleaver_set set, uint32_t k, uint32_t sum, uint16_t count);
+uint32_t read_at(interleaver_set set, uint32_t position, uint32_t *sum, uint16_t *count);
+
+/* the refusals of an accepted set, whose list is l, and those of the sets that are refused */
+void sums_refused(interleaver_set set, const uint16_t *l);
+void sums_of_refused_sets(void);
+
 void walks(void);
 void bytes(void);
 void floats(void);

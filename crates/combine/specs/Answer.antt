@@ -5,18 +5,18 @@ use mathlib.Core.Bool.{Bool, cond, not, _&&_}
 use mathlib.Core.List.{List, [], _∷_, _++_}
 use mathlib.Core.Path.{_≡_, refl}
 use lib.Dec.{eqb, leb}
-use lib.Ieee.{Float, nan}
-use lib.ListN.{length, getD}
+use lib.Ieee.{Float}
+use lib.ListN.{length}
 use Rattle.laws.specs.Outcome.{Outcome, done, refused, apart, Line, line, judged, after}
-use Rattle.laws.specs.Run.{run}
 use Rattle.sets.specs.declared.Set.{Set}
 use Rattle.sets.specs.declared.Refusal.{Refusal}
 use Rattle.sets.specs.Verdict.{refusal}
-use Rattle.families.specs.Rules.{L, M}
+use Rattle.families.specs.Rules.{L}
 use Rattle.walks.specs.Answer.{planLines}
 use Rattle.positions.specs.declared.Running.{Running}
-use Rattle.positions.specs.Heard.{Reception, Kept, held, heard}
+use Rattle.positions.specs.Heard.{Reception, Kept, held}
 use Rattle.adders.specs.Lines.{valueLines}
+use Rattle.adders.specs.Adding.{sumsBy, countsBy}
 use Rattle.combine.specs.declared.Reading.{Reading}
 use Rattle.combine.specs.declared.Reading.the-variants.{Soft, Blank, Refused}
 
@@ -37,35 +37,32 @@ addLines s b h = planLines s ++ lentLines s b h
 unfoldable pub addedOf : Set → Reception → Kept → Outcome Refusal (Unit {0})
 addedOf s b h = judged (refusal s) (addLines s b h) tt
 
--- position k hears value M(k), which is the one whose input index is k
-abbrev pub heardIn : Set → Reception → Kept → ℕ → Running
-heardIn s b h k = heard (getD (b .present) (M s k) 0) (getD (b .received) (M s k) nan) (held h k)
-
--- the sums and the counts after the call: each position as it hears its value; where a line applies, what was stored
+-- the sums and the counts after the call: value t goes to input index L(t), and what it makes of that position is stored there (`sumsBy`, `countsBy`); where
+-- a line applies, what was stored
 unfoldable pub sumsOf : Set → Reception → Kept → List Float
-sumsOf s b h = after (addLines s b h) (run (λ k. heardIn s b h k .sum) 0 (s .n)) (h .sums)
+sumsOf s b h = after (addLines s b h) (sumsBy (L s) (s .n) b h) (h .sums)
 
 unfoldable pub countsOf : Set → Reception → Kept → List ℕ
-countsOf s b h = after (addLines s b h) (run (λ k. heardIn s b h k .count) 0 (s .n)) (h .counts)
+countsOf s b h = after (addLines s b h) (countsBy (L s) (s .n) b h) (h .counts)
 
 -- what stands at a position
-pub data Held : Type 0 where
-  soft : Running → Held
-  blank : Held
+pub data Standing : Type 0 where
+  soft : Running → Standing
+  blank : Standing
 
 -- a blank exactly where the count is 0
-abbrev pub toldOf : Running → Held
+abbrev pub toldOf : Running → Standing
 toldOf r = cond (eqb (r .count) 0) blank (soft r)
 
 -- reading position k: 1, 2, 3, 8, 4 a position that is N or more, 6 the sums or the counts aren't N
 unfoldable pub readLines : Set → Kept → ℕ → List Line
 readLines s h k = planLines s ++ (line 4 (leb (s .n) k) ∷ line 6 (not (bothLong (s .n) (h .sums) (h .counts))) ∷ [])
 
-unfoldable pub readOf : Set → Kept → ℕ → Outcome Refusal Held
+unfoldable pub readOf : Set → Kept → ℕ → Outcome Refusal Standing
 readOf s h k = judged (refusal s) (readLines s h k) (toldOf (held h k))
 
 -- what the answer of a reading says
-abbrev pub sayReading : Reading → Outcome Refusal Held
+abbrev pub sayReading : Reading → Outcome Refusal Standing
 sayReading (Soft r) = done (soft r)
 sayReading Blank = done blank
 sayReading (Refused x) = refused x
@@ -74,7 +71,7 @@ sayReading (Refused x) = refused x
 pub readings-apart : (a b : Reading) → sayReading a ≡ sayReading b → a ≡ b
 readings-apart = apart sayReading read same
   where
-    read : Outcome Refusal Held → Reading
+    read : Outcome Refusal Standing → Reading
     read (done (soft r)) = Soft r
     read (done blank) = Blank
     read (refused x) = Refused x

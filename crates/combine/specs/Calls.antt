@@ -1,4 +1,4 @@
--- Receptions one after the other, accepted and refused: what a position holds then. Its count is how many present values went to it, and its sum is those
+-- Calls one after the other, accepted and refused: what a position holds then. Its count is how many present values went to it more, and its sum is those
 -- values added in order, one rounding each.
 use Prim.Native.Nat.{ℕ, suc, _+_, _<_}
 use mathlib.Core.Bool.{Bool, true, false, cond}
@@ -11,28 +11,33 @@ use lib.Dec.{eqb}
 use lib.Ieee.{Float, nan, add, binary32}
 use lib.ListN.{length, getD}
 use borrow.Author.Tests.{ne-eqb}
-use Rattle.laws.specs.Outcome.{done, refused, Ruling, clear, stopped, first, after, settle}
+use Rattle.laws.specs.Lent.{Lent, leftOf, left-alone}
+use Rattle.laws.specs.Outcome.{done, refused}
 use Rattle.sets.specs.declared.Set.{Set}
-use Rattle.sets.specs.Verdict.{refusal}
+use Rattle.sets.specs.declared.Refusal.{Refusal}
 use Rattle.families.specs.Rules.{M}
 use Rattle.positions.specs.declared.Running.{Running}
-use Rattle.positions.specs.Heard.{running, Reception, Kept, held, later, heard}
-use Rattle.combine.specs.Answer.{addLines, addedOf}
+use Rattle.positions.specs.Heard.{running, Reception, Kept, kept, held, later, heard}
+use Rattle.combine.specs.Answer.{addedOf, sumsOf, countsOf}
 use Rattle.combine.specs.Laws.{keptAfter, refused-alone, hears}
 
--- receptions one after the other
-abbrev pub addAll : Set → List Reception → Kept → Kept
-addAll s [] h = h
-addAll s (b ∷ bs) h = addAll s bs (keptAfter s b h)
+-- calls on what is stored for a set, one after the other, from h to h′: bs are the blocks of the accepted ones. A refused one may come at any place, with
+-- any set and any block, lent the sums and the counts, parts of them, or something else
+pub data Calls (s : Set) : Kept → List Reception → Kept → Type 0 where
+  none : {h : Kept} → Calls s h [] h
+  added : {h h′ : Kept} {bs : List Reception} (b : Reception) → addedOf s b h ≡ done tt → Calls s (keptAfter s b h) bs h′ → Calls s h (b ∷ bs) h′
+  stopped : {h h′ : Kept} {bs : List Reception} (s₁ : Set) (b : Reception) (lent : Kept) {x : Refusal} → addedOf s₁ b lent ≡ refused x
+      → (l : Lent (h .sums) (lent .sums)) (m : Lent (h .counts) (lent .counts))
+      → Calls s (kept (leftOf l (sumsOf s₁ b lent)) (leftOf m (countsOf s₁ b lent))) bs h′ → Calls s h bs h′
 
--- the value of a reception at position k, if it is present
+-- the value of a block at position k, if it is present
 abbrev pub valueAt : Set → Reception → ℕ → List Float
 valueAt s b k = cond (eqb (getD (b .present) (M s k) 0) 1) (getD (b .received) (M s k) nan ∷ []) []
 
--- the present values that go to position k, in order: none of a call that is refused
-abbrev pub wentTo : Set → List Reception → Kept → ℕ → List Float
-wentTo s [] h k = []
-wentTo s (b ∷ bs) h k = after (addLines s b h) (valueAt s b k) [] ++ wentTo s bs (keptAfter s b h) k
+-- the present values that go to position k, block by block
+abbrev pub wentTo : Set → List Reception → ℕ → List Float
+wentTo s [] k = []
+wentTo s (b ∷ bs) k = valueAt s b k ++ wentTo s bs k
 
 -- a value and others after it, added in order, one rounding each
 abbrev pub inTurn : Float → List Float → Float
@@ -62,15 +67,6 @@ hold-none r = ap (running (r .sum)) (add-zero (r .count))
 hold-first : (v : Float) (vs : List Float) (r : Running) → holding (heard 1 v r) vs ≡ holding r (v ∷ vs)
 hold-first v vs r = ap₂ running (heard-first v vs r) (let z : r .count + 1 + length vs ≡ r .count + suc (length vs) = omega arith in z)
 
--- the call by its lines
-if-clear : (s : Set) (b : Reception) (h : Kept) → first (addLines s b h) ≡ clear → addedOf s b h ≡ done tt
-unfolding addedOf
-if-clear s b h q = rw q
-
-if-stopped : (s : Set) (b : Reception) (h : Kept) {n : ℕ} → first (addLines s b h) ≡ stopped n → addedOf s b h ≡ refused (refusal s n)
-unfolding addedOf
-if-stopped s b h q = rw q
-
 module _ (s : Set) (k : ℕ) (l : k < s .n) where
   -- one accepted call
   one-more : (b : Reception) (h : Kept) → addedOf s b h ≡ done tt → (vs : List Float) → holding (held (keptAfter s b h) k) vs ≡ holding (held h k) (valueAt s b k ++ vs)
@@ -83,15 +79,12 @@ module _ (s : Set) (k : ℕ) (l : k < s .n) where
       go true = hold-first v vs (held h k)
       go false = refl
 
-  pub counted : (bs : List Reception) (h : Kept)
-      → held (addAll s bs h) k ≡ running (sumBy (held h k) (wentTo s bs h k)) (held h k .count + length (wentTo s bs h k))
-  counted [] h = sym (hold-none (held h k))
-  counted (b ∷ bs) h = go (first (addLines s b h)) refl (counted bs (keptAfter s b h))
-    where
-      rest : List Float
-      rest = wentTo s bs (keptAfter s b h) k
-
-      go : (x : Ruling) → first (addLines s b h) ≡ x → held (addAll s bs (keptAfter s b h)) k ≡ holding (held (keptAfter s b h) k) rest
-          → held (addAll s bs (keptAfter s b h)) k ≡ holding (held h k) (settle x (λ n. []) (valueAt s b k) ++ rest)
-      go clear q r = r ∙ one-more b h (if-clear s b h q) rest
-      go (stopped n) q r = r ∙ ap (λ (x : Kept). holding (held x k) rest) (refused-alone s b h (if-stopped s b h q))
+  pub counted : {h h′ : Kept} {bs : List Reception} → Calls s h bs h′
+      → held h′ k ≡ running (sumBy (held h k) (wentTo s bs k)) (held h k .count + length (wentTo s bs k))
+  counted {h} none = sym (hold-none (held h k))
+  counted {h} (added {bs = bs} b e c) = counted c ∙ one-more b h e (wentTo s bs k)
+  counted {h} (stopped {bs = bs} s₁ b lent e l m c) =
+      let q = refused-alone s₁ b lent e in
+      counted c
+      ∙ ap₂ (λ (ss : List Float) (cs : List ℕ). holding (held (kept ss cs) k) (wentTo s bs k))
+      (left-alone l (ap (λ (x : Kept). x .sums) q)) (left-alone m (ap (λ (x : Kept). x .counts) q))

@@ -12,7 +12,7 @@ use borrow.Author.Tests.{eq-eqb}
 use Rattle.sets.specs.declared.Set.{Set}
 use Rattle.positions.specs.declared.Running.{Running}
 use Rattle.positions.specs.Heard.{Reception, Kept, held}
-use Rattle.combine.specs.Calls.{addAll, wentTo, inTurn, sumBy, counted}
+use Rattle.combine.specs.Calls.{Calls, wentTo, inTurn, sumBy, counted}
 use Rattle.combine.specs.Eighths.{Worth, above, below, add-exact}
 
 -- values that are whole eighths: those above zero total p of them, and those below n. (A zero of either sign is 0 of them.)
@@ -41,7 +41,7 @@ from-none r _ _ _ c some (rise v vs k p n h t) l =
 from-none r _ _ _ c some (fall v vs k p n h t) l =
     rw (eq-eqb (r .count) 0 c) (subst (λ (x : ℕ). Worth (inTurn v vs) x (k + n)) (zero-add p) (in-turn-exact v vs 0 k p n (below v k 0 k h (omega arith)) t (omega arith)))
 
-pub sum-exact : (s : Set) (k : ℕ) → k < s .n → (bs : List Reception) (h : Kept) (p n : ℕ) → held h k .count ≡ 0 → 0 < length (wentTo s bs h k)
-    → Eighths (wentTo s bs h k) p n → p + n ≤ 8 * 2097152 → Worth (held (addAll s bs h) k .sum) p n
-sum-exact s k l bs h p n c some e m =
-    subst (λ (x : Running). Worth (x .sum) p n) (sym (counted s k l bs h)) (from-none (held h k) (wentTo s bs h k) p n c some e (omega arith))
+pub sum-exact : (s : Set) (k : ℕ) → k < s .n → {h h′ : Kept} {bs : List Reception} → Calls s h bs h′ → (p n : ℕ) → held h k .count ≡ 0 → 0 < length (wentTo s bs k)
+    → Eighths (wentTo s bs k) p n → p + n ≤ 8 * 2097152 → Worth (held h′ k .sum) p n
+sum-exact s k l {h} {h′} {bs} calls p n c some e m =
+    subst (λ (x : Running). Worth (x .sum) p n) (sym (counted s k l calls)) (from-none (held h k) (wentTo s bs k) p n c some e (omega arith))

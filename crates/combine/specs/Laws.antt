@@ -1,28 +1,26 @@
 -- What adding a block does, over the definitions that its contract cites: a refused block leaves all as it was; of an accepted one each value goes to
 -- its input index, and each position hears one value.
 use Prim.Native.Nat.{ℕ, _<_}
-use mathlib.Core.Bool.{false, not, _&&_}
 use mathlib.Core.List.{List}
-use mathlib.Core.Path.{_≡_, ap, ap₂, _∙_}
+use mathlib.Core.Path.{_≡_, sym, ap, ap₂, _∙_}
 use native.Mathlib.Nat.{zero-add}
-use lib.Dec.{eqb}
 use lib.Ieee.{Float, nan}
 use lib.ListN.{length, getD}
-use borrow.Author.Tests.{eqb-true, not-false}
-use Rattle.laws.specs.Outcome.{done, refused, Clear, clear, first, first-clear, clear-front, clear-back, answer-clear, answer-keeps}
-use Rattle.laws.specs.Members.{both}
+use Rattle.laws.specs.Outcome.{done, refused, clear, first, clear-front, answer-clear, answer-keeps}
 use Rattle.laws.specs.Run.{run, length-run, getD-run}
 use Rattle.laws.specs.Perm.{Perm}
 use Rattle.sets.specs.declared.Set.{Set}
 use Rattle.sets.specs.declared.Refusal.{Refusal}
-use Rattle.sets.specs.Admits.{Accepted}
 use Rattle.sets.specs.Verdict.{refusal}
 use Rattle.families.specs.Rules.{L, M}
-use Rattle.walks.specs.Answer.{planLines}
-use Rattle.walks.specs.Lists.{each-once}
-use Rattle.walks.specs.Whole.{plan-accepted}
 use Rattle.positions.specs.Heard.{running, Reception, Kept, kept, held, heard}
-use Rattle.combine.specs.Answer.{lentLines, addLines, addedOf, heardIn, sumsOf, countsOf}
+use Rattle.tables.specs.Answer.{blockLines, movedOf}
+use Rattle.tables.specs.Passed as tabled
+use Rattle.adders.specs.Lines.{valueLines}
+use Rattle.adders.specs.Adding.{sumsBy, countsBy}
+use Rattle.combine.specs.Answer.{addLines, addedOf, sumsOf, countsOf}
+use Rattle.combine.specs.Placed.{heardIn, placed}
+use Rattle.combine.specs.Passed.{inputOf, outputOf, lines-are, Long, all-long}
 
 -- what is stored after a call
 abbrev pub keptAfter : Set → Reception → Kept → Kept
@@ -33,48 +31,39 @@ pub refused-alone : (s : Set) (b : Reception) (h : Kept) {x : Refusal} → added
 unfolding addedOf sumsOf countsOf
 refused-alone s b h e =
     ap₂ kept
-    (answer-keeps (refusal s) tt (addLines s b h) e (run (λ k. heardIn s b h k .sum) 0 (s .n)) (h .sums))
-    (answer-keeps (refusal s) tt (addLines s b h) e (run (λ k. heardIn s b h k .count) 0 (s .n)) (h .counts))
+    (answer-keeps (refusal s) tt (addLines s b h) e (sumsBy (L s) (s .n) b h) (h .sums))
+    (answer-keeps (refusal s) tt (addLines s b h) e (countsBy (L s) (s .n) b h) (h .counts))
 
--- every length of an accepted block is N
-pub record Long (n : ℕ) (b : Reception) (h : Kept) : Type 0 where
-  pub received : length (b .received) ≡ n
-  pub present : length (b .present) ≡ n
-  pub sums : length (h .sums) ≡ n
-  pub counts : length (h .counts) ≡ n
-
+-- an accepted block: its set is accepted, every length is N
 module _ (s : Set) (b : Reception) (h : Kept) (e : addedOf s b h ≡ done tt) where
-  pub no-line : first (addLines s b h) ≡ clear
+  no-line : first (addLines s b h) ≡ clear
   unfolding addedOf
   no-line = answer-clear (refusal s) tt (addLines s b h) e
 
-  pub its-set : Accepted s
-  unfolding addLines
-  its-set = plan-accepted s (clear-front (planLines s) (lentLines s b h) no-line)
+  -- as `tables` says of its lengths
+  its-block : movedOf s (s .n) (inputOf s b h) (outputOf s b h) ≡ done tt
+  its-block =
+      rw (clear-front (blockLines s (s .n) (inputOf s b h) (outputOf s b h)) (valueLines (L s) (s .n) b h) (ap first (sym (lines-are s b h)) ∙ no-line))
 
   pub its-perm : Perm (s .n) (L s) (M s)
-  its-perm = each-once s its-set
-
-  its-values : Clear (lentLines s b h)
-  unfolding addLines
-  its-values = first-clear (lentLines s b h) (clear-back (planLines s) (lentLines s b h) no-line)
+  its-perm = tabled.its-perm s (s .n) (inputOf s b h) (outputOf s b h) its-block
 
   pub its-lengths : Long (s .n) b h
-  its-lengths =
-      let i = both-long (length (b .received)) (length (b .present)) (its-values .0) in
-      let o = both-long (length (h .sums)) (length (h .counts)) (its-values .1 .0) in
-      record { received = i .0; present = i .1; sums = o .0; counts = o .1 }
-    where
-      both-long : (x y : ℕ) → not (eqb x (s .n) && eqb y (s .n)) ≡ false → (x ≡ s .n) × (y ≡ s .n)
-      both-long x y q = let p = both (eqb x (s .n)) (eqb y (s .n)) (not-false (eqb x (s .n) && eqb y (s .n)) q) in (eqb-true x (s .n) (p .0), eqb-true y (s .n) (p .1))
+  its-lengths = all-long s b h its-block
 
+  -- by input index, what each position becomes
   pub sums-are : sumsOf s b h ≡ run (λ k. heardIn s b h k .sum) 0 (s .n)
   unfolding sumsOf
-  sums-are = rw no-line
+  sums-are = rw no-line (placed s b h its-perm (λ r. r .sum) nan (h .sums) (its-lengths .sums))
 
   pub counts-are : countsOf s b h ≡ run (λ k. heardIn s b h k .count) 0 (s .n)
   unfolding countsOf
-  counts-are = rw no-line
+  counts-are = rw no-line (placed s b h its-perm (λ r. r .count) 0 (h .counts) (its-lengths .counts))
+
+  -- before that, as it is written
+  pub counts-scattered : countsOf s b h ≡ countsBy (L s) (s .n) b h
+  unfolding countsOf
+  counts-scattered = rw no-line
 
   -- position k hears value M(k) ..
   pub hears : (k : ℕ) → k < s .n → held (keptAfter s b h) k ≡ heardIn s b h k

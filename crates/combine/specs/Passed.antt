@@ -13,7 +13,7 @@ use Rattle.laws.specs.Outcome.{done, refused, Line, line, clear, stopped, first
 use Rattle.laws.specs.Run.{run, run-same}
 use Rattle.laws.specs.Move.{scatter, scatter-same}
 use Rattle.laws.specs.Loop.{by}
-use Rattle.laws.specs.Perm.{Perm}
+use Rattle.laws.specs.Perm.{Perm, once}
 use Rattle.sets.specs.declared.Set.{Set}
 use Rattle.sets.specs.declared.Refusal.{Refusal}
 use Rattle.sets.specs.Verdict.{refusal}
@@ -28,8 +28,7 @@ use Rattle.positions.specs.Heard.{Reception, Kept, held, heard}
 use Rattle.adders.specs.Any.{any, any-none}
 use Rattle.adders.specs.Lines.{heardAt, isHigh, isSpoiled, isFull, valueLines, lines-same, ruled, ruled-clear, ruled-stopped}
 use Rattle.adders.specs.Adding.{Fitting, Ready, sumsBy, countsBy}
-use Rattle.combine.specs.Answer.{addLines, addedOf, heardIn, sumsOf, countsOf, oneOff}
-use Rattle.combine.specs.Placed.{placed}
+use Rattle.combine.specs.Answer.{addLines, addedOf, sumsOf, countsOf, oneOff}
 
 -- the one of two lengths that isn't n says whether both are
 pub off-both : (n a b : ℕ) → eqb (oneOff n a b) n ≡ (eqb a n && eqb b n)
@@ -46,6 +45,13 @@ both-on n x y q = go (eqb x n) refl q
     go true d q = (eqb-true x n d, q)
     go false d q = absurd (eqb-false x n d q)
 
+-- all that is lent is n long
+pub record Long (n : ℕ) (b : Reception) (h : Kept) : Type 0 where
+  pub received : length (b .received) ≡ n
+  pub present : length (b .present) ≡ n
+  pub sums : length (h .sums) ≡ n
+  pub counts : length (h .counts) ≡ n
+
 module _ (s : Set) (b : Reception) (h : Kept) where
   -- the lengths as `tables` judges them
   abbrev pub inputOf : ℕ
@@ -61,6 +67,14 @@ module _ (s : Set) (b : Reception) (h : Kept) where
       ap₂ (λ (x y : Bool). planLines s ++ (line 5 (not x) ∷ line 6 (not y) ∷ valueLines (L s) (s .n) b h))
       (sym (off-both (s .n) (length (b .received)) (length (b .present)))) (sym (off-both (s .n) (length (h .sums)) (length (h .counts))))
       ∙ sym (append-assoc (planLines s) (lengthLines (s .n) inputOf outputOf) (valueLines (L s) (s .n) b h))
+
+  -- every length is N where `tables` says done
+  pub all-long : movedOf s (s .n) inputOf outputOf ≡ done tt → Long (s .n) b h
+  all-long e =
+      let l = its-lengths s (s .n) inputOf outputOf e in
+      let i = both-on (s .n) (length (b .received)) (length (b .present)) (l .0) in
+      let o = both-on (s .n) (length (h .sums)) (length (h .counts)) (l .1) in
+      record { received = i .0; present = i .1; sums = o .0; counts = o .1 }
 
   pub filled-so : {i o : ℕ} {table : List ℕ} {r : Moved} → i ≡ inputOf → o ≡ outputOf → Filled s (s .n) i o table r → Filled s (s .n) inputOf outputOf table r
   filled-so x y p = rw (sym x, sym y) p
@@ -81,30 +95,19 @@ module _ (s : Set) (b : Reception) (h : Kept) where
 
     pub sums-kept : h .sums ≡ sumsOf s b h
     unfolding sumsOf
-    sums-kept = kept-then (run (λ k. heardIn s b h k .sum) 0 (s .n)) (h .sums)
+    sums-kept = kept-then (sumsBy (L s) (s .n) b h) (h .sums)
 
     pub counts-kept : h .counts ≡ countsOf s b h
     unfolding countsOf
-    counts-kept = kept-then (run (λ k. heardIn s b h k .count) 0 (s .n)) (h .counts)
+    counts-kept = kept-then (countsBy (L s) (s .n) b h) (h .counts)
 
   -- the table is had: all is as long as it must be, and the values decide
   module _ {table : List ℕ} {r : Moved} (p : Filled s (s .n) inputOf outputOf table r) (e : r ≡ Done) where
     perm : Perm (s .n) (L s) (M s)
     perm = its-perm s (s .n) inputOf outputOf (sym (done-answer p e))
 
-    -- every length is N
-    pub record Long : Type 0 where
-      pub received : length (b .received) ≡ s .n
-      pub present : length (b .present) ≡ s .n
-      pub sums : length (h .sums) ≡ s .n
-      pub counts : length (h .counts) ≡ s .n
-
-    pub long : Long
-    long =
-        let l = its-lengths s (s .n) inputOf outputOf (sym (done-answer p e)) in
-        let i = both-on (s .n) (length (b .received)) (length (b .present)) (l .0) in
-        let o = both-on (s .n) (length (h .sums)) (length (h .counts)) (l .1) in
-        record { received = i .0; present = i .1; sums = o .0; counts = o .1 }
+    long : Long (s .n) b h
+    long = all-long (sym (done-answer p e))
 
     pub fits-table : Fitting table b h
     fits-table =
@@ -155,7 +158,7 @@ module _ (s : Set) (b : Reception) (h : Kept) where
           once = λ i k hi hk q.
               let a : i < s .n = omega (arith, long .received) in
               let c : k < s .n = omega (arith, long .received) in
-              sym (perm .m-of-l i a) ∙ ap (M s) (sym (p .tabled e .holds i a) ∙ q ∙ p .tabled e .holds k c) ∙ perm .m-of-l k c;
+              once perm i k a c (sym (p .tabled e .holds i a) ∙ q ∙ p .tabled e .holds k c);
           spare = λ t l.
               ltb-false 65535 (heardAt (by table) b h t .count)
               (any-none (isFull (by table) b h) (length (b .received)) (first-clear (valueLines (by table) (length (b .received)) b h) goes .1 .1 .0) t l);
@@ -166,20 +169,20 @@ module _ (s : Set) (b : Reception) (h : Kept) where
         values-done = rw (by-values ∙ goes)
 
         -- what the table scatters, L does
-        by-table : {A : Type 0} (part : Running → A) (z : A) (old : List A) → length old ≡ s .n
-            → scatter (by table) (length (b .received)) z (run (λ t. part (heardAt (by table) b h t)) 0 (length (b .received))) old ≡ run (λ k. part (heardIn s b h k)) 0 (s .n)
-        by-table part z old l =
+        by-table : {A : Type 0} (part : Running → A) (z : A) (old : List A)
+            → scatter (by table) (length (b .received)) z (run (λ t. part (heardAt (by table) b h t)) 0 (length (b .received))) old
+            ≡ scatter (L s) (s .n) z (run (λ t. part (heardAt (L s) b h t)) 0 (s .n)) old
+        by-table part z old =
             ap (λ (n : ℕ). scatter (by table) n z (run (λ t. part (heardAt (by table) b h t)) 0 n) old) (long .received)
             ∙ ap (λ (xs : List _). scatter (by table) (s .n) z xs old)
             (run-same (λ t. part (heardAt (by table) b h t)) (λ t. part (heardAt (L s) b h t)) 0 (s .n)
             (λ t g. ap (λ (k : ℕ). part (heard (getD (b .present) t 0) (getD (b .received) t nan) (held h k))) (p .tabled e .holds t (omega arith))))
             ∙ scatter-same (by table) (L s) (s .n) z (run (λ t. part (heardAt (L s) b h t)) 0 (s .n)) old (p .tabled e .holds)
-            ∙ placed s b h perm part z old l
 
         pub sums-done : {got : List Float} → got ≡ sumsBy (by table) (length (b .received)) b h → got ≡ sumsOf s b h
         unfolding sumsOf
-        sums-done q = q ∙ by-table (λ x. x .sum) nan (h .sums) (long .sums) ∙ rw (by-values ∙ goes)
+        sums-done q = q ∙ by-table (λ x. x .sum) nan (h .sums) ∙ rw (by-values ∙ goes)
 
         pub counts-done : {got : List ℕ} → got ≡ countsBy (by table) (length (b .received)) b h → got ≡ countsOf s b h
         unfolding countsOf
-        counts-done q = q ∙ by-table (λ x. x .count) 0 (h .counts) (long .counts) ∙ rw (by-values ∙ goes)
+        counts-done q = q ∙ by-table (λ x. x .count) 0 (h .counts) ∙ rw (by-values ∙ goes)

@@ -1,4 +1,4 @@
--- What value t makes of position L(t), written there for every t, is by input index what position k makes of value M(k).
+-- What value t makes of position L(t), stored there for every t, is by input index what position k becomes by value M(k).
 use Prim.Native.Nat.{ℕ, _<_}
 use mathlib.Core.List.{List}
 use mathlib.Core.Path.{_≡_, ap, _∙_}
@@ -14,7 +14,10 @@ use Rattle.families.specs.Rules.{L, M}
 use Rattle.positions.specs.declared.Running.{Running}
 use Rattle.positions.specs.Heard.{Reception, Kept, held, heard}
 use Rattle.adders.specs.Lines.{heardAt}
-use Rattle.combine.specs.Answer.{heardIn}
+
+-- position k and the value that goes there
+abbrev pub heardIn : Set → Reception → Kept → ℕ → Running
+heardIn s b h k = heard (getD (b .present) (M s k) 0) (getD (b .received) (M s k) nan) (held h k)
 
 module _ (s : Set) (b : Reception) (h : Kept) (perm : Perm (s .n) (L s) (M s)) {A : Type 0} (part : Running → A) where
   pub placed : (z : A) (old : List A) → length old ≡ s .n

@@ -1,11 +1,12 @@
 -- The refusals of the two calls in the sentences of change request 2 and in its order: 1, 2, 3, 8, 5, 6, 14, 13, 15 for a block that is added, 1, 2, 3, 8,
 -- 4, 6 for a position that is read. A number is said exactly when its sentence is the first that holds, and then all that is stored is what it was.
-use Prim.Native.Nat.{ℕ, _≤_, _<_}
+use Prim.Native.Nat.{ℕ, _+_, _≤_, _<_}
 use mathlib.Core.Bool.{Bool, true, false, not, _&&_}
 use mathlib.Core.List.{List, [], _∷_, _++_}
 use mathlib.Core.Logic.{_↔_, _≢_, _⊎_, inl, inr}
 use mathlib.Core.Path.{_≡_, refl, ap₂, _∙_}
 use native.Mathlib.Nat.{not-le-of-lt}
+use native.Mathlib.Omega.{arith}
 use lib.Dec.{eqb}
 use lib.Ieee.{nan}
 use lib.ListN.{length, getD}
@@ -14,7 +15,6 @@ use Rattle.laws.specs.Outcome.{done, refused, Line, line, clear-then, clear-fir
 use Rattle.laws.specs.Members.{both}
 use Rattle.laws.specs.Sentences.{Sentence, sentence, FirstTrue, Told, none, more, told-reach, said-exactly, kept-alone}
 use Rattle.laws.specs.Told.{NoneTrue, told-clear}
-use Rattle.laws.specs.Run.{run}
 use Rattle.sets.specs.declared.Set.{Set}
 use Rattle.sets.specs.Admits.{Accepted}
 use Rattle.sets.specs.Verdict.{refusal}
@@ -23,10 +23,11 @@ use Rattle.families.specs.Rules.{L}
 use Rattle.walks.specs.Answer.{planLines}
 use Rattle.walks.specs.Served as served
 use Rattle.walks.specs.Refusals.{planSentences, plan-told}
-use Rattle.positions.specs.Heard.{Reception, Kept, kept, held}
+use Rattle.positions.specs.Heard.{Reception, Kept, kept, held, one, count-rise}
 use Rattle.adders.specs.Any.{any, Somewhere, any-some, any-none}
+use Rattle.adders.specs.Adding.{sumsBy, countsBy}
 use Rattle.adders.specs.Lines.{heardAt, isHigh, isSpoiled, isFull}
-use Rattle.combine.specs.Answer.{lentLines, addLines, addedOf, heardIn, sumsOf, countsOf, toldOf, readLines, readOf}
+use Rattle.combine.specs.Answer.{lentLines, addLines, addedOf, sumsOf, countsOf, toldOf, readLines, readOf}
 use Rattle.combine.specs.Laws.{keptAfter}
 use Rattle.combine.specs.Spoils.{Spoils, spoils-so, spoils-not}
 
@@ -38,7 +39,7 @@ lentSentences s b h =
     ∷ sentence 6 ((length (h .sums) ≢ s .n) ⊎ (length (h .counts) ≢ s .n))
     ∷ sentence 14 (Somewhere (λ t. 1 < getD (b .present) t 0) (s .n))
     ∷ sentence 13 (Somewhere (λ t. Spoils (getD (b .present) t 0) (getD (b .received) t nan) (held h (L s t))) (s .n))
-    ∷ sentence 15 (Somewhere (λ t. 65535 < heardAt (L s) b h t .count) (s .n))
+    ∷ sentence 15 (Somewhere (λ t. 65535 < held h (L s t) .count + one (getD (b .present) t 0)) (s .n))
     ∷ []
 
 -- adding a block: 1, 2, 3, 8, and these
@@ -81,8 +82,9 @@ lent-told s b h =
     (told-some 14 (isHigh (L s) b h) (λ t. 1 < getD (b .present) t 0) (s .n) (λ t e. ltb-true 1 (getD (b .present) t 0) e) (λ t e q. not-le-of-lt q (ltb-false 1 (getD (b .present) t 0) e))
     (told-some 13 (isSpoiled (L s) b h) (λ t. Spoils (getD (b .present) t 0) (getD (b .received) t nan) (held h (L s t))) (s .n)
     (λ t e. spoils-so (getD (b .present) t 0) (getD (b .received) t nan) (held h (L s t)) e) (λ t e q. spoils-not (getD (b .present) t 0) (getD (b .received) t nan) (held h (L s t)) e q)
-    (told-some 15 (isFull (L s) b h) (λ t. 65535 < heardAt (L s) b h t .count) (s .n) (λ t e. ltb-true 65535 (heardAt (L s) b h t .count) e)
-    (λ t e q. not-le-of-lt q (ltb-false 65535 (heardAt (L s) b h t .count) e)) none))))
+    (told-some 15 (isFull (L s) b h) (λ t. 65535 < held h (L s t) .count + one (getD (b .present) t 0)) (s .n)
+    (λ t e. omega (arith, ltb-true 65535 (heardAt (L s) b h t .count) e, count-rise (getD (b .present) t 0) (held h (L s t) .count)))
+    (λ t e q. not-le-of-lt q (omega (arith, ltb-false 65535 (heardAt (L s) b h t .count) e, count-rise (getD (b .present) t 0) (held h (L s t) .count)))) none))))
 
 add-told : (s : Set) (b : Reception) (h : Kept) → Told (Unit {0}) (addLines s b h) (addSentences s b h)
 unfolding addLines
@@ -106,8 +108,8 @@ pub stored-kept : (s : Set) (b : Reception) (h : Kept) (k : ℕ) → FirstTrue (
 unfolding sumsOf countsOf
 stored-kept s b h k f =
     ap₂ kept
-    (kept-alone (add-told s b h) tt (run (λ k. heardIn s b h k .sum) 0 (s .n)) (h .sums) k f)
-    (kept-alone (add-told s b h) tt (run (λ k. heardIn s b h k .count) 0 (s .n)) (h .counts) k f)
+    (kept-alone (add-told s b h) tt (sumsBy (L s) (s .n) b h) (h .sums) k f)
+    (kept-alone (add-told s b h) tt (countsBy (L s) (s .n) b h) (h .counts) k f)
 
 -- an accepted set of which no such sentence holds is served
 pub add-served : (s : Set) (b : Reception) (h : Kept) → Accepted s → NoneTrue (lentSentences s b h) → addedOf s b h ≡ done tt

@@ -26,10 +26,6 @@ or-cases : (a b : Bool) → (a || b) ≡ true → (a ≡ true) ⊎ (b ≡ true)
 or-cases true b e = inl refl
 or-cases false b e = inr e
 
-or-none : (a b : Bool) → (a || b) ≡ false → (a ≡ false) × (b ≡ false)
-or-none true b e = absurd (true≢false e)
-or-none false b e = (refl, e)
-
 there : (n : ℕ) → not (eqb n 0) ≡ true → n ≢ 0
 there n e = eqb-false n 0 (not-true (eqb n 0) e)
 

@@ -1,33 +1,26 @@
 -- The counts' total rises by the number of present values.
 use Prim.Native.Nat.{ℕ, zero, suc, _+_, _≤_, _<_}
-use mathlib.Core.Bool.{Bool, true, false, cond}
 use mathlib.Core.List.{List, [], _∷_}
 use mathlib.Core.Logic.{_≢_}
 use mathlib.Core.Path.{_≡_, refl, sym, ap, _∙_}
 use native.Mathlib.Nat.{zero-add}
 use native.Mathlib.Omega.{arith}
-use lib.Dec.{eqb}
 use lib.ListN.{length, getD, set}
 use Rattle.laws.specs.Outcome.{done}
 use Rattle.laws.specs.Run.{run, getD-run}
-use Rattle.laws.specs.Move.{scatter, length-scatter}
+use Rattle.laws.specs.Move.{scatter, length-scatter, unmet}
+use Rattle.laws.specs.Perm.{once}
 use Rattle.sets.specs.declared.Set.{Set}
-use Rattle.families.specs.Rules.{L, M}
-use Rattle.positions.specs.Heard.{Reception, Kept, countAfter}
+use Rattle.families.specs.Rules.{L}
+use Rattle.positions.specs.Heard.{Reception, Kept, one, count-rise}
 use Rattle.adders.specs.Lines.{heardAt}
-use Rattle.adders.specs.Adding.{unmet}
 use Rattle.combine.specs.Answer.{addedOf, countsOf}
-use Rattle.combine.specs.Placed.{placed}
-use Rattle.combine.specs.Laws.{its-perm, its-lengths, counts-are}
+use Rattle.combine.specs.Laws.{its-perm, its-lengths, counts-scattered}
 
 -- the total of a list
 abbrev pub total : List ℕ → ℕ
 total [] = 0
 total (x ∷ xs) = x + total xs
-
--- one for a presence byte that is 1
-abbrev pub one : ℕ → ℕ
-one p = cond (eqb p 1) 1 0
 
 -- how many values are present
 abbrev pub presentIn : List ℕ → ℕ
@@ -53,13 +46,6 @@ total-set [] i v h = absurd (omega arith)
 total-set (x ∷ xs) zero v h = omega arith
 total-set (x ∷ xs) (suc i) v h = omega (arith, total-set xs i v (omega arith))
 
-count-rise : (p c : ℕ) → countAfter p c ≡ c + one p
-count-rise p c = go (eqb p 1)
-  where
-    go : (t : Bool) → cond t (c + 1) c ≡ c + cond t 1 0
-    go true = refl
-    go false = omega arith
-
 module _ (s : Set) (b : Reception) (h : Kept) (e : addedOf s b h ≡ done tt) where
   news : List ℕ
   news = run (λ t. heardAt (L s) b h t .count) 0 (s .n)
@@ -77,14 +63,11 @@ module _ (s : Set) (b : Reception) (h : Kept) (e : addedOf s b h ≡ done tt) wh
       omega (arith, total-set (scatter (L s) j 0 news (h .counts)) (L s j) (getD news j 0) below, new, old, rises j (omega arith))
     where
       fresh : (t : ℕ) → t < j → L s j ≢ L s t
-      fresh t g q =
-          let p = its-perm s b h e in
-          let z : j ≡ t = sym (p .m-of-l j l) ∙ ap (M s) q ∙ p .m-of-l t (omega arith) in
-          let y : ⊥ = omega arith in y
+      fresh t g q = let z = once (its-perm s b h e) j t l (omega arith) q in let y : ⊥ = omega arith in y
 
   pub total-rises : total (countsOf s b h) ≡ total (h .counts) + presentIn (b .present)
   unfolding news
   total-rises =
-      ap total (counts-are s b h e ∙ sym (placed s b h (its-perm s b h e) (λ r. r .count) 0 (h .counts) (its-lengths s b h e .counts)))
+      ap total (counts-scattered s b h e)
       ∙ rises (s .n) (omega arith)
       ∙ ap (λ (x : ℕ). total (h .counts) + x) (ap (first-ones (b .present)) (sym (its-lengths s b h e .present)) ∙ ones-are (b .present))

@@ -1,5 +1,5 @@
--- The same for receptions: 0 is given exactly when the call is done, any other number is that of the first line that applies, and the sum and the count
--- behind the two pointers are like any lent buffer. A position that is blank gives 0, the count 0, and the sum as it was.
+-- What the number given back tells of receptions, as Zero.antt has it of the other calls: 0 is given exactly when the call is done, any other number is that
+-- of the first line that applies, and the sum and the count behind the two pointers are like any lent buffer. A position that is blank gives 0, the count 0, and the sum as it was.
 use Prim.Native.Nat.{ℕ}
 use mathlib.Core.Logic.{_↔_, _≢_}
 use mathlib.Core.Path.{_≡_}

@@ -8,7 +8,7 @@ use mathlib.Core.Path.{_≡_, refl, sym, _∙_}
 use native.Mathlib.Omega.{arith}
 use lib.ListN.{length}
 use Rattle.laws.specs.declared.Way.{Way}
-use Rattle.laws.specs.Outcome.{done, refused, partOr, Line, Ruling, clear, stopped, first, settle, judged, after, First, first-stopped, stopped-first}
+use Rattle.laws.specs.Outcome.{done, refused, Line, Ruling, clear, stopped, first, settle, judged, after, First, first-stopped, stopped-first}
 use Rattle.sets.specs.declared.Set.{Set}
 use Rattle.sets.specs.Set.{sizeOf}
 use Rattle.sets.specs.Beside.{besideLines}
@@ -56,10 +56,10 @@ module _ {R A : Type 0} (number : R → ℕ) (give : ℕ → R) (given : (k : �
           (λ q. first-stopped ls k (e ∙ rw (sym (given j) ∙ q)), λ f. let z = stopped-first ls k f in let y : j ≡ k = cc in given j ∙ y)
 
 -- an out-parameter after a call is what any lent buffer is: the new value where no line applies, else the old one
-pub out-is-after : {R A B : Type 0} (give : ℕ → R) (ls : List Line) (a : A) (part : A → B) (old : B) → partOr (judged give ls a) part old ≡ after ls (part a) old
+pub out-is-after : {R A B : Type 0} (give : ℕ → R) (ls : List Line) (a : A) (part : A → B) (old : B) → outOf (judged give ls a) part old ≡ after ls (part a) old
 out-is-after give ls a part old = go (first ls)
   where
-    go : (r : Ruling) → partOr (settle r (λ k. refused (give k)) (done a)) part old ≡ settle r (λ k. old) (part a)
+    go : (r : Ruling) → outOf (settle r (λ k. refused (give k)) (done a)) part old ≡ settle r (λ k. old) (part a)
     go clear = refl
     go (stopped k) = refl
 

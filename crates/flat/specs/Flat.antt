@@ -48,7 +48,7 @@ abbrev pub streamNumberOf : {A : Type 0} → Outcome ℕ A → ℕ
 streamNumberOf = numberBy (λ (k : ℕ). k)
 
 -- what an out-parameter holds after a call: a part of its values where it is done, else what it held
-abbrev pub outOf : {R A : Type 0} → Outcome R A → (A → ℕ) → ℕ → ℕ
+abbrev pub outOf : {R A B : Type 0} → Outcome R A → (A → B) → B → B
 outOf o part old = partOr o part old
 
 -- the number behind `phase`: that of the record

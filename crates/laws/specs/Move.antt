@@ -8,7 +8,7 @@ use native.Mathlib.Omega.{arith}
 use lib.ListN.{length, getD, set, length-set}
 use lib.Seq.{ext-getD, getD-set-same, getD-set-other}
 use Rattle.laws.specs.Run.{run, length-run, getD-run, run-same}
-use Rattle.laws.specs.Perm.{Perm}
+use Rattle.laws.specs.Perm.{Perm, once}
 
 module _ {A : Type 0} where
   -- an entry that is there needs no stand-in
@@ -72,6 +72,12 @@ module _ {A : Type 0} where
       ap (λ (l : List A). set l (f n) (getD xs n y)) (scatter-any f n y z xs out (omega arith))
       ∙ ap (λ (v : A). set (scatter f n z xs out) (f n) v) (getD-any xs n y z (omega arith))
 
+  -- a place that is not met is as it was
+  pub unmet : (f : ℕ → ℕ) (n : ℕ) (z : A) (xs out : List A) (k : ℕ) → ((t : ℕ) → t < n → k ≢ f t) → getD (scatter f n z xs out) k z ≡ getD out k z
+  unmet f zero z xs out k h = refl
+  unmet f (suc n) z xs out k h =
+      getD-set-other (scatter f n z xs out) (f n) k (getD xs n z) z (h n (omega arith)) ∙ unmet f n z xs out k (λ t l. h t (omega arith))
+
   -- to scatter by l is to gather by m, whatever stood in the output
   module _ {n : ℕ} {l m : ℕ → ℕ} (p : Perm n l m) (z : A) (xs out : List A) (e : length out ≡ n) where
     -- the first j are in their places
@@ -88,7 +94,7 @@ module _ {A : Type 0} where
         (eq-or-lt-of-le (le-of-suc-le-suc ht))
       where
         differ : t < j → l t ≢ l j
-        differ q w = absurd (clash (sym (p .m-of-l t (omega arith)) ∙ ap m w ∙ p .m-of-l j (omega arith)))
+        differ q w = clash (once p t j (omega arith) (omega arith) w)
           where
             clash : t ≡ j → ⊥
             clash v = omega arith

@@ -1,4 +1,4 @@
-// Receptions added up on what is lent to C: a parameter set is its numbers in a row, and what a position holds goes through two out-parameters, which a
+// Receptions added up on what C lends: a parameter set is its numbers in a row, and what a position holds goes through two out-parameters, which a
 // refused call leaves as they are.
 use combine::Reading;
 use flat::SET;

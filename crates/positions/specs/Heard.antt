@@ -42,6 +42,10 @@ held h k = running (getD (h .sums) k nan) (getD (h .counts) k 0)
 abbrev pub later : Float → Running → Float
 later v r = cond (eqb (r .count) 0) v (add binary32 (r .sum) v)
 
+-- one for a presence byte that is 1
+abbrev pub one : ℕ → ℕ
+one p = cond (eqb p 1) 1 0
+
 -- a count after a presence byte
 abbrev pub countAfter : ℕ → ℕ → ℕ
 countAfter p c = cond (eqb p 1) (c + 1) c
@@ -57,6 +61,10 @@ spoils p v r =
     || ((not (eqb (r .count) 0) && not (finite (r .sum)))
     || (eqb p 1 && (not (eqb (r .count) 0) && not (finite (add binary32 (r .sum) v)))))
 
+or-false : (b : Bool) → b ≡ (b || false)
+or-false true = refl
+or-false false = refl
+
 -- which is asked of one float: of a present value, the sum that the position would have
 pub present-spoils : (p : ℕ) (v : Float) (r : Running) → p ≡ 1 → not (finite (later v r)) ≡ spoils p v r
 unfolding spoils
@@ -65,11 +73,7 @@ present-spoils p v r e =
   where
     go : (none fv fs fa : Bool) → (fa ≡ true → (fs ≡ true) × (fv ≡ true)) → (x y : Float) → finite x ≡ fv → finite y ≡ fa
         → not (finite (cond none x y)) ≡ (not fv || ((not none && not fs) || (not none && not fa)))
-    go true fv fs fa h x y p q = rw p (ends fv)
-      where
-        ends : (b : Bool) → not b ≡ (not b || false)
-        ends true = refl
-        ends false = refl
+    go true fv fs fa h x y p q = rw p (or-false (not fv))
     go false fv fs fa h x y p q = rw q (both fv fs fa h)
       where
         both : (fv fs fa : Bool) → (fa ≡ true → (fs ≡ true) × (fv ≡ true)) → not fa ≡ (not fv || (not fs || not fa))
@@ -82,15 +86,19 @@ present-spoils p v r e =
 -- of a blank, the sum that is stored
 pub blank-spoils : (p : ℕ) (v : Float) (r : Running) → p ≢ 1 → r .count ≢ 0 → not (finite (r .sum)) ≡ spoils p v r
 unfolding spoils
-blank-spoils p v r n c = rw (ne-eqb p 1 n, ne-eqb (r .count) 0 c) (go (finite (r .sum)))
-  where
-    go : (b : Bool) → not b ≡ (not b || false)
-    go true = refl
-    go false = refl
+blank-spoils p v r n c = rw (ne-eqb p 1 n, ne-eqb (r .count) 0 c) (or-false (not (finite (r .sum))))
 
 pub none-spoils : (p : ℕ) (v : Float) (r : Running) → p ≢ 1 → r .count ≡ 0 → false ≡ spoils p v r
 unfolding spoils
 none-spoils p v r n c = rw (ne-eqb p 1 n, eq-eqb (r .count) 0 c)
+
+-- a count rises by one, or not at all
+pub count-rise : (p c : ℕ) → countAfter p c ≡ c + one p
+count-rise p c = go (eqb p 1)
+  where
+    go : (t : Bool) → cond t (c + 1) c ≡ c + cond t 1 0
+    go true = refl
+    go false = omega arith
 
 -- only a present value can take a count past 65,535, and only from there
 pub full-is : (p c : ℕ) → c ≤ 65535 → (eqb p 1 && eqb c 65535) ≡ ltb 65535 (countAfter p c)

@@ -38,7 +38,7 @@ pub fn is_spoiled(p: u8, v: f32, sum: f32, count: u16) -> bool
     if p == 1 {
         return !is_finite(sum_after(v, sum, count));
     }
-    if count < 1 {
+    if count == 0 {
         return false;
     }
     !is_finite(sum)

@@ -20,7 +20,7 @@ ghost use Prim.Native.Nat.{_≤_};
 // The argument that names the first file: `combine` is argument 1.
 const FIRST: usize = 5;
 
-// The values of a file that are looked at, and their bytes: at most one more than the longest block has.
+// The values of a file that are looked at, and their bytes: at most one more than the largest table holds.
 const VALUES: usize = 6145;
 
 const BYTES: usize = 24580;

@@ -3,6 +3,7 @@
 use Prim.Native.Nat.{ℕ}
 use mathlib.Core.List.{List, [], _++_}
 use mathlib.Core.Path.{_≡_}
+use Rattle.laws.specs.Lent.{Lent, leftOf}
 use Rattle.laws.specs.Outcome.{Outcome, done, refused, Line}
 use Rattle.laws.specs.declared.Way.{Way}
 use Rattle.streams.specs.declared.Stream.{Stream}
@@ -36,16 +37,6 @@ module _ {A : Type 0} where
   abbrev pub outputAfter : Call A → List A
   outputAfter c = outputOf (c .way) (c .stream) (c .store) (c .input) (c .output)
 
--- what a call that is refused was lent: the machine's store or a part of it, or something else
-pub data Lent {A : Type 0} (store : List A) : List A → Type 0 where
-  part : (before lent behind : List A) → store ≡ before ++ (lent ++ behind) → Lent store lent
-  other : (lent : List A) → Lent store lent
-
--- the machine's store, where new is what such a call left of what it was lent
-abbrev pub storeLeft : {A : Type 0} {store lent : List A} → Lent store lent → List A → List A
-storeLeft (part before lent behind e) new = before ++ (new ++ behind)
-storeLeft {store = store} (other lent) new = store
-
 -- calls one after the other, from a record and a store: xs went into the accepted ones and ys came out of them, all in all, and at the end
 -- stand the record s′ and the store′. An accepted call has the record and the store that the one before it handed on. A refused one may come
 -- at any place: a feed of either way, with any record and any input, that is lent the machine's store or a part of it for its store, its
@@ -55,6 +46,6 @@ pub data Calls {A : Type 0} (way : Way) : Stream → List A → List A → List 
   fed : {s r s′ : Stream} {store xs ys store′ : List A} (c : Call A) → c .way ≡ way → c .stream ≡ s → c .store ≡ store → says c ≡ done r
       → Calls way r (storeAfter c) xs ys s′ store′ → Calls way s store (c .input ++ xs) (outputAfter c ++ ys) s′ store′
   stopped : {s s′ : Stream} {store xs ys store′ : List A} {k : ℕ} (c : Call A) → says c ≡ refused k → (l : Lent store (c .store))
-      → (m : Lent (storeLeft l (storeAfter c)) (c .output)) → Calls way s (storeLeft m (outputAfter c)) xs ys s′ store′ → Calls way s store xs ys s′ store′
+      → (m : Lent (leftOf l (storeAfter c)) (c .output)) → Calls way s (leftOf m (outputAfter c)) xs ys s′ store′ → Calls way s store xs ys s′ store′
   unstarted : {s s′ : Stream} {store xs ys store′ lent : List A} {k : ℕ} (f : A) → startedOf lent ≡ refused k → (l : Lent store lent)
-      → Calls way s (storeLeft l (startedStore f lent)) xs ys s′ store′ → Calls way s store xs ys s′ store′
+      → Calls way s (leftOf l (startedStore f lent)) xs ys s′ store′ → Calls way s store xs ys s′ store′

@@ -7,6 +7,7 @@ use native.Mathlib.Nat.{zero-add, mod-lt}
 use lib.ListN.{length, getD, replicate, take, length-replicate}
 use lib.Dec.{lit<}
 use borrow.Author.Tests.{eq-eqb, lt-leb}
+use Rattle.laws.specs.Lent.{Lent, leftOf, left-alone}
 use Rattle.laws.specs.Outcome.{done, refused, done-clear, answer-keeps, buffer-new}
 use Rattle.laws.specs.declared.Way.{Way}
 use Rattle.laws.specs.declared.Way.the-variants.{Interleaver, Deinterleaver}
@@ -18,7 +19,7 @@ use Rattle.streams.specs.declared.Stream.{Stream}
 use Rattle.streams.specs.Dvb.{slotOf, nextOf, startRecord, startStore, fedOutput, fedStore, fedRecord}
 use Rattle.streams.specs.Answers.{startLines, startedOf, startedStore, fedOf}
 use Rattle.streams.specs.Phase.{phaseOf, output-phase, record-phase}
-use Rattle.streams.specs.Calls.{Fresh, Call, linesOf, says, storeAfter, outputAfter, Lent, part, other, storeLeft, Calls, none, fed, stopped, unstarted}
+use Rattle.streams.specs.Calls.{Fresh, Call, linesOf, says, storeAfter, outputAfter, Calls, none, fed, stopped, unstarted}
 
 -- one run over xs: its output, its record, its store
 pub record OneRun {A : Type 0} (way : Way) (s : Stream) (store xs ys : List A) (s′ : Stream) (store′ : List A) : Type 0 where
@@ -38,20 +39,15 @@ module _ {A : Type 0} where
         stored = cc (buffer-new (linesOf c) (fedStore (c .way) (c .stream) (c .store) (c .input)) (c .store) (clear .0));
       }
 
-  -- what is lent and left as it was leaves the machine's store as it was
-  left-alone : {store lent : List A} (l : Lent store lent) {new : List A} → new ≡ lent → storeLeft l new ≡ store
-  left-alone (other lent) e = refl
-  left-alone (part before lent behind w) e = ap (λ (l : List A). before ++ (l ++ behind)) e ∙ sym w
-
-  -- so does a refused feed ..
-  feed-kept : {store : List A} (c : Call A) {k : ℕ} → says c ≡ refused k → (l : Lent store (c .store)) → (m : Lent (storeLeft l (storeAfter c)) (c .output))
-      → storeLeft m (outputAfter c) ≡ store
+  -- a refused feed leaves the machine's store as it was ..
+  feed-kept : {store : List A} (c : Call A) {k : ℕ} → says c ≡ refused k → (l : Lent store (c .store)) → (m : Lent (leftOf l (storeAfter c)) (c .output))
+      → leftOf m (outputAfter c) ≡ store
   feed-kept c {k} e l m =
       left-alone m (answer-keeps (λ n. n) (fedRecord (c .stream) (c .input)) (linesOf c) e _ (c .output))
       ∙ left-alone l (answer-keeps (λ n. n) (fedRecord (c .stream) (c .input)) (linesOf c) e _ (c .store))
 
   -- .. and a refused start
-  start-kept : {store lent : List A} (f : A) {k : ℕ} → startedOf lent ≡ refused k → (l : Lent store lent) → storeLeft l (startedStore f lent) ≡ store
+  start-kept : {store lent : List A} (f : A) {k : ℕ} → startedOf lent ≡ refused k → (l : Lent store lent) → leftOf l (startedStore f lent) ≡ store
   start-kept {lent = lent} f e l = left-alone l (answer-keeps (λ n. n) startRecord (startLines lent) e (startStore f) lent)
 
   -- two runs, the second from where the first ended

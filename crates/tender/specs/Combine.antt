@@ -1,7 +1,7 @@
 -- Change request 2, repeated receptions added up, over the definitions that the two calls' contracts cite: addedOf, sumsOf and countsOf of `combine::add`,
 -- readOf of `combine::read`. A Reception is a received block and its presence bytes, in output order; a Kept is the stored sums and counts, by input index.
 use Prim.Native.Nat.{ℕ, _+_, _*_, _≤_, _<_}
-use mathlib.Core.Bool.{Bool}
+use mathlib.Core.Bool.{Bool, true, false, true≢false}
 use mathlib.Core.List.{List}
 use mathlib.Core.Logic.{_↔_, _≢_}
 use mathlib.Core.Path.{_≡_, sym, ap, ap₂, _∙_}
@@ -10,22 +10,23 @@ use lib.Ieee.{Float, nan, fin, add, binary32}
 use lib.ListN.{length, getD}
 use borrow.Author.Tests.{eq-eqb, ne-eqb}
 use Rattle.laws.specs.declared.Way.the-variants.{Deinterleaver}
-use Rattle.laws.specs.Outcome.{done, refused}
+use Rattle.laws.specs.Outcome.{Outcome, done, refused}
 use Rattle.laws.specs.Sentences.{FirstTrue}
 use Rattle.laws.specs.Told.{NoneTrue}
 use Rattle.sets.specs.declared.Set.{Set}
+use Rattle.sets.specs.declared.Refusal.{Refusal}
 use Rattle.sets.specs.Verdict.{refusal}
 use Rattle.positions.specs.declared.Running.{Running}
-use Rattle.positions.specs.Heard.{running, Reception, reception, Kept, held, heard, later}
+use Rattle.positions.specs.Heard.{running, Reception, reception, Kept, held, heard}
 use Rattle.blocks.specs.Answer.{moved}
-use Rattle.combine.specs.Answer.{addedOf, sumsOf, countsOf, soft, blank, readOf, toldOf}
+use Rattle.combine.specs.Answer.{addedOf, sumsOf, countsOf, Standing, soft, blank, readOf, toldOf}
 use Rattle.combine.specs.Laws as laws
 use Rattle.combine.specs.Laws.{keptAfter}
 use Rattle.combine.specs.Refusals as refusals
 use Rattle.combine.specs.Refusals.{lentSentences, addSentences, readSentences}
 use Rattle.combine.specs.Total as totals
 use Rattle.combine.specs.Total.{total, presentIn}
-use Rattle.combine.specs.Calls.{addAll, wentTo, sumBy, counted}
+use Rattle.combine.specs.Calls.{Calls, wentTo, sumBy, counted}
 use Rattle.combine.specs.Eighths.{Worth}
 use Rattle.combine.specs.Exact.{Eighths, sum-exact}
 use Rattle.tender.specs.Condition2.{Listed, admits, L, target-back}
@@ -80,17 +81,18 @@ added-long s b h e = (laws.sums-long s b h e, laws.counts-long s b h e)
 pub total-rises : (s : Set) (b : Reception) (h : Kept) → addedOf s b h ≡ done tt → total (countsOf s b h) ≡ total (h .counts) + presentIn (b .present)
 total-rises s b h e = totals.total-rises s b h e
 
--- any calls one after the other, accepted and refused: wentTo are the present values of the accepted ones that go to position k, in order. Its count is
--- how many they are more, and its sum is these values added in order, one rounding each (sumBy), the first of them stored as it is where the count was 0
-pub counted-once : (s : Set) (k : ℕ) → k < s .n → (calls : List Reception) (h : Kept)
-    → held (addAll s calls h) k ≡ running (sumBy (held h k) (wentTo s calls h k)) (held h k .count + length (wentTo s calls h k))
-counted-once s k l calls h = counted s k l calls h
+-- any calls one after the other, refused ones between (`Calls`; with any set, any block, any part of the buffers): wentTo are the present values of the accepted
+-- ones that go to position k, in order. Its count is how many they are more, and its sum is these values added in order, one rounding each (sumBy), the first
+-- of them stored as it is where the count was 0
+module _ (s : Set) (k : ℕ) (l : k < s .n) {before behind : Kept} {blocks : List Reception} (calls : Calls s before blocks behind) where
+  pub counted-once : held behind k ≡ running (sumBy (held before k) (wentTo s blocks k)) (held before k .count + length (wentTo s blocks k))
+  counted-once = counted s k l calls
 
--- "a position's sum is exact while all values it received since its count was 0 are whole eighths and their magnitudes total at most 2,097,152": p eighths
--- above zero and n below, 8 · 2,097,152 of both at most. Then the sum is finite and exactly p eighths less n
-pub exact : (s : Set) (k : ℕ) → k < s .n → (calls : List Reception) (h : Kept) (p n : ℕ) → held h k .count ≡ 0 → 0 < length (wentTo s calls h k)
-    → Eighths (wentTo s calls h k) p n → p + n ≤ 8 * 2097152 → Worth (held (addAll s calls h) k .sum) p n
-exact s k l calls h p n c some e m = sum-exact s k l calls h p n c some e m
+  -- "a position's sum is exact while all values it received since its count was 0 are whole eighths and their magnitudes total at most 2,097,152": p eighths
+  -- above zero and n below, 8 · 2,097,152 of both at most. Then the sum is finite and exactly p eighths less n
+  pub exact : (p n : ℕ) → held before k .count ≡ 0 → 0 < length (wentTo s blocks k) → Eighths (wentTo s blocks k) p n → p + n ≤ 8 * 2097152
+      → Worth (held behind k .sum) p n
+  exact p n c some e m = sum-exact s k l calls p n c some e m
 
 -- "Zero is a value": a present +0, or -0, is counted like any other, and where it is the first, read answers that very zero and the count 1. A position
 -- that only blanks went to is answered as a blank
@@ -109,6 +111,15 @@ module _ (s : Set) (b : Reception) (h : Kept) (listed : Listed s) (e : addedOf s
 
   pub blank-reads : getD (b .present) t 0 ≡ 0 → held h (L s t) .count ≡ 0 → readOf s (keptAfter s b h) (L s t) ≡ done blank
   blank-reads p c = reads ∙ ap (λ (r : Running). done (toldOf r)) (blank-keeps s b h e t l p) ∙ rw c
+
+-- the two differ in the answer
+pub soft-or-blank : (r : Running) → _≢_ {A = Outcome Refusal Standing} (done (soft r)) (done blank)
+soft-or-blank r e = true≢false (ap is-soft e)
+  where
+    is-soft : Outcome Refusal Standing → Bool
+    is-soft (done (soft r)) = true
+    is-soft (done blank) = false
+    is-soft (refused x) = false
 
 -- no value decides a place: of two accepted blocks that differ in values alone, the counts after them are the same, and a value that both have at t
 -- leaves the same at L(t), whatever the others are

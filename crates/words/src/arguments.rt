@@ -15,7 +15,7 @@ fn with_word(room: &mut [u8; ROOM], from: usize, word: &[u8]) -> usize
     append(room, from, word)
 }
 
-// A line with argument i after it, and a space. One that is too long for any command counts as empty.
+// A line with argument i after it, and a space. One that is too long for any word of a command counts as empty.
 fn with_argument(room: &mut [u8; ROOM], from: usize, i: usize) -> usize
     ensures { λ r. ⌜ WithArgument (now (room .entry)) from (now (room .exit)) r ⌝ }
 {
@@ -31,7 +31,8 @@ fn up_to_nine(n: usize) -> usize
     if n < 9 { n } else { 9 }
 }
 
-// The arguments as a line, a space after each. Eight are looked at, which is more than any command takes.
+// The arguments as a line, a space after each. Eight are looked at, which is more than any command takes but for the files of one that takes as many as
+// there are: whoever reads those asks for them.
 pub fn join(room: &mut [u8; ROOM]) -> usize
     ensures { λ r. ⌜ Joined (now (room .entry)) (now (room .exit)) r ⌝ }
 {

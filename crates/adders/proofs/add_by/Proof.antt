@@ -30,6 +30,6 @@ add-by-spec =
     (λ c. omega (arith, c .before .before .before .before .before .before .before .before .before .before .loop-test .taken, c .before .before .before .before .before .before .before .before .before .before .before .before .before .before .before .before .before .good))
     (λ c. omega (arith, c .before .before .before .before .before .before .before .before .before .before .loop-test .taken))
     (λ c. let e = c .before .before .before .before .hear .ensures in added-more (c .before .before .before .before .before .before .before .before .before .before .before .before .before .before .before .before .before .pre) (c .before .before .before .before .before .before .before .before .before .before .before .loop .inv) (c .before .before .before .before .before .before .before .before .before .before .loop-test .taken) (e .0) (e .1))
-    (λ c. c .before .loop .inv .sums-long)
-    (λ c. c .before .loop .inv .counts-long)
+    (λ c. c .before .loop .inv .sums .long)
+    (λ c. c .before .loop .inv .counts .long)
     (λ c. added-all (c .before .before .before .before .before .before .before .pre) (c .before .loop .inv) (c .loop-test .left)))

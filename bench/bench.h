@@ -1,0 +1,44 @@
+/* What the harness and the comparison of the sides share. */
+#ifndef BENCH_H
+#define BENCH_H
+#include "plain.h"
+
+enum { OURS, DIVIDE, STEP, SIDES };
+enum kind { WALK, WRITTEN_OUT, BYTES, SOFT, FEED, FEED_BACK, ADD, ADD_SOME, READ };
+extern read_call *const reads[SIDES];
+
+/* A row: some sets in a row from the list of sets, the room of a walk (0: a whole block), or the length of a feed. */
+struct row { enum kind kind; uint32_t from, sets, length; char name[80]; };
+extern struct set sets[32];
+
+/* What a side writes to. The input is the same for all. */
+enum { LIST = 8192, BYTE = 65536, MOST = 5114 };
+struct area {
+    _Alignas(64) uint16_t list[LIST];
+    _Alignas(64) uint8_t bytes[BYTE];
+    _Alignas(64) uint8_t store[STORE];
+    _Alignas(64) float sums[MOST];
+    _Alignas(64) uint16_t counts[MOST];
+    float sum;
+    uint16_t count;
+    uint32_t record[RECORD], cell, cells, turn;
+};
+extern struct area areas[SIDES];
+extern uint8_t input[BYTE];
+
+/* Received blocks, in whole eighths: one, and the same with the other sign, in turns, so that the sums stay where they are. Presence bytes: all 1,
+   and a fifth of them 0. */
+extern float received[2][MOST];
+extern uint8_t present[2][MOST];
+void receive(void);
+
+/* Starts a side's stream, or its sums: 1 everywhere, of one value. */
+void start(const struct row *, int side);
+
+/* A row once, by one side: 0, or the number of a refusal. */
+uint32_t once(const struct row *, int side);
+
+/* Whether a side differs from ours in a row; then a line says where. */
+int check(const struct row *);
+
+#endif

@@ -1,0 +1,109 @@
+/* The comparison of the sides: what each writes, says and reads beside ours. */
+#include "bench.h"
+
+static const char *const side_names[SIDES] = {"ours", "the C that divides", "the C that steps"};
+
+/* The first byte in which a side's area is not as ours, without the record, which is each side's own; or -1. */
+static long differs(int side)
+{
+    const uint8_t *got = (const uint8_t *)(areas + side), *ours = (const uint8_t *)(areas + OURS);
+    for (size_t i = 0; i < sizeof(struct area); i++)
+        if (got[i] != ours[i] && (i < offsetof(struct area, record) || i >= offsetof(struct area, cell)))
+            return (long)i;
+    return -1;
+}
+
+static int complain(const struct row *r, int side, long at)
+{
+    static const struct { size_t from; const char *name; } parts[] = {
+        {offsetof(struct area, cell), "the cells"}, {offsetof(struct area, sum), "the reading"}, {offsetof(struct area, counts), "the counts"},
+        {offsetof(struct area, sums), "the sums"}, {offsetof(struct area, store), "the store"}, {offsetof(struct area, bytes), "the output"}};
+    size_t i = (size_t)at, part = 0;
+    if (i < offsetof(struct area, bytes))
+        return printf("bench: %s: %s has address %u at place %zu, ours %u\n", r->name, side_names[side], areas[side].list[i / 2], i / 2,
+                      areas[OURS].list[i / 2]), 1;
+    while (i < parts[part].from)
+        part++;
+    return printf("bench: %s: %s differs from ours at byte %zu of %s\n", r->name, side_names[side], i - parts[part].from, parts[part].name), 1;
+}
+
+/* A row once by every side: whether one does not say the number, or leaves something else than ours. */
+static int unlike(const struct row *r, uint32_t number)
+{
+    for (int side = 0; side < SIDES; side++) {
+        uint32_t said = once(r, side);
+        if (said != number)
+            return printf("bench: %s: %s says %u, not %u\n", r->name, side_names[side], said, number), 1;
+    }
+    for (int side = DIVIDE; side < SIDES; side++)
+        if (differs(side) >= 0)
+            return complain(r, side, differs(side));
+    return 0;
+}
+
+static void count_all(uint32_t n, uint16_t count)
+{
+    for (int side = 0; side < SIDES; side++)
+        for (uint32_t k = 0; k < n; k++)
+            areas[side].counts[k] = count;
+}
+
+/* First receptions too, where the counts are 0; then one fault upon the other: full counts, an infinity, a presence byte. Then blanks alone, which
+   full counts bear, and an infinite sum does not. */
+static int check_add(const struct row *r)
+{
+    uint32_t n = sets[r->from].n;
+    count_all(n, 0);
+    int wrong = unlike(r, 0) || unlike(r, 0);
+    count_all(n, 65535);
+    wrong = wrong || unlike(r, 15);
+    received[0][n - 1] = received[1][n - 1] = __builtin_inff();
+    present[0][n - 1] = present[1][n - 1] = 1;
+    wrong = wrong || unlike(r, 13);
+    present[0][n - 1] = present[1][n - 1] = 2;
+    wrong = wrong || unlike(r, 14);
+    memset(present, 0, sizeof present);
+    wrong = wrong || unlike(r, 0);
+    for (int side = 0; side < SIDES; side++)
+        areas[side].sums[n / 2] = __builtin_inff();
+    wrong = wrong || unlike(r, 13);
+    receive();
+    return wrong;
+}
+
+/* Each position by itself, every third a blank. */
+static int check_read(const struct row *r)
+{
+    const struct set *s = sets + r->from;
+    for (uint32_t k = 0; k < s->n; k++)
+        for (int side = 0; side < SIDES; side++) {
+            struct area *a = areas + side;
+            a->sums[k] = k, a->counts[k] = k % 3;
+            if (reads[side](s, a->sums, s->n, a->counts, s->n, k, &a->sum, &a->count) != 0 || a->sum != areas[OURS].sum ||
+                a->count != areas[OURS].count)
+                return printf("bench: %s: %s reads position %u otherwise than ours\n", r->name, side_names[side], k), 1;
+        }
+    return 0;
+}
+
+/* Each set of a row by itself, and of a stream a few short feeds first, so that a feed begins in the middle. */
+int check(const struct row *whole)
+{
+    static const uint32_t before[] = {1, 5, 203, 24, 1999, 0};
+    uint32_t parts = whole->sets != 0 ? whole->sets : sizeof before / sizeof *before;
+    for (uint32_t i = 0, x = 1; i < BYTE; i++, x = x * 1664525 + 1013904223)
+        input[i] = (uint8_t)(x >> 24);
+    memset(areas, 0xa5, sizeof areas); /* so that what is not to be written shows */
+    for (int side = 0; side < SIDES; side++)
+        start(whole, side);
+    for (uint32_t i = 0; i < parts; i++) {
+        struct row r = *whole;
+        if (whole->sets != 0)
+            r.from += i, r.sets = 1;
+        else if (before[i] != 0)
+            r.length = before[i];
+        if (unlike(&r, 0))
+            return 1;
+    }
+    return whole->kind == READ ? check_read(whole) : whole->kind >= ADD ? check_add(whole) : 0;
+}
