@@ -24,15 +24,15 @@ refused() { echo "refused $1" >"$work/want"; answered; }
 # failed START: whether it printed nothing, and said one line that starts so
 failed() { [ "$status" -eq 1 ] && [ ! -s "$work/got" ] && said "$1"; }
 
-# A second computation, for the set 3 6 288: values by their bits, each at its index by the list, all of them whole 512ths. A sum of zeros is -0 only
-# where each of them is.
-./interleaver list 3 6 288 >"$work/list"
+# A second computation: values by their bits, each at its index by the list of the set, all of them whole 512ths. A sum of zeros is -0 only where each of
+# them is.
+of_set() { ./interleaver list "$@" >"$work/list"; }
 by_list() {
     for file in "$@"; do od -An -v -tu4 -w4 "$file"; done | awk '
-        NR == FNR { l[NR - 1] = $1; next }
+        NR == FNR { l[NR - 1] = $1; n = NR; next }
         $1 % 2147483648 > 2139095040 { next }
         {
-            k = l[(FNR - 1) % 288]
+            k = l[(FNR - 1) % n]
             e = int($1 / 8388608) % 256
             x = e == 0 ? 0 : ($1 % 8388608 + 8388608) * 2 ^ (e - 150)
             sum[k] += $1 < 2147483648 ? x : -x
@@ -40,7 +40,7 @@ by_list() {
             count[k]++
         }
         END {
-            for (k = 0; k < 288; k++) {
+            for (k = 0; k < n; k++) {
                 text = sprintf("%.12f", sum[k])
                 sub(/0+$/, "", text)
                 sub(/\.$/, "", text)
@@ -52,6 +52,7 @@ by_list() {
 
 # The samples. Every kind of line is among what is wanted.
 one=samples/reception1.f32 two=samples/reception2.f32 three=samples/reception3.f32
+of_set 3 6 288
 by_list $one $two $three
 for line in '[0-9]* blank' '3 0 2' '6 -0 3' '[0-9]* -[0-9.]* 1' '[0-9]* [0-9.]* 3'; do
     grep -q "^$line\$" "$work/want" || echo "$line"
@@ -70,6 +71,22 @@ by_list $one $three
 combine 3 6 288 $one $three
 answered
 expect 'two receptions' $?
+
+# The same values in blocks of other sets, the longest among them.
+for set in '1 6 72' '2 4 192' '5 1 40' '5 1 5114'; do
+    for sample in $one $two $three; do
+        for again in 1 2 3 4 5 6 7 8 9; do cat "$sample" $two; done | head -c $((${set##* } * 4)) >"$work/${sample##*/}"
+    done
+    set -- "$work/${one##*/}" "$work/${two##*/}" "$work/${three##*/}"
+    # shellcheck disable=SC2086
+    of_set $set
+    by_list "$@"
+    # shellcheck disable=SC2086
+    combine $set "$@"
+    answered && [ "$(wc -l <"$work/got")" -eq "${set##* }" ]
+    expect "three receptions of $set" $?
+done
+of_set 3 6 288
 
 # A file that comes in ragged reads.
 by_list $one $two

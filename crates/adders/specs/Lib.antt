@@ -1,3 +1,4 @@
+pub mod Lengths
 pub mod Any
 pub mod Lines
 pub mod Judging

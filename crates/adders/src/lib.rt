@@ -1,12 +1,24 @@
-// Repeated receptions added up, by a table of addresses: the loop that judges a received block against what is stored, and the loop that adds it.
+// Repeated receptions added up, by a table of addresses: the loop that judges a received block against what is stored, and the loop that adds it; and two
+// lengths asked as one.
 // Whoever calls has filled the table and judged the lengths. No value decides where anything goes.
 ghost use mathlib.Core.Path.{_≡_};
 ghost use lib.ListN.{length};
 ghost use Rattle.laws.specs.Loop.{by};
 ghost use Rattle.laws.specs.Outcome.{first};
 ghost use Rattle.positions.specs.Heard.{reception, kept};
+ghost use Rattle.adders.specs.Lengths.{oneOff};
 ghost use Rattle.adders.specs.Lines.{valueLines, ruled, firstOf};
 ghost use Rattle.adders.specs.Adding.{Fitting, Ready, sumsBy, countsBy};
+
+// Of two lengths, one that isn't n, if there is one.
+pub fn off(n: usize, a: usize, b: usize) -> usize
+    ensures { λ r. ⌜ r ≡ oneOff n a b ⌝ }
+{
+    if a != n {
+        return a;
+    }
+    b
+}
 
 // The first of 14, 13, 15 that applies, or 0.
 fn first_of(high: bool, spoiled: bool, full: bool) -> u32

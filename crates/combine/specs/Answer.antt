@@ -80,7 +80,3 @@ readings-apart = apart sayReading read same
     same (Soft r) = refl
     same Blank = refl
     same (Refused x) = refl
-
--- of two lengths, one that isn't n, if there is one
-abbrev pub oneOff : ℕ → ℕ → ℕ → ℕ
-oneOff n a b = cond (eqb a n) b a

@@ -1,14 +1,13 @@
 -- What stands behind each return of the two calls: the table, the judgement, the loop that adds.
 use Prim.Native.Nat.{ℕ, _<_}
-use mathlib.Core.Bool.{Bool, true, false, cond, not, _&&_}
+use mathlib.Core.Bool.{Bool, not}
 use mathlib.Core.List.{List, _∷_, _++_, append-assoc}
 use mathlib.Core.Logic.{_≢_}
-use mathlib.Core.Path.{_≡_, refl, sym, ap, ap₂, _∙_}
+use mathlib.Core.Path.{_≡_, sym, ap, ap₂, _∙_}
 use native.Mathlib.Omega.{arith}
-use lib.Dec.{eqb}
 use lib.Ieee.{Float, nan}
 use lib.ListN.{length, getD}
-use borrow.Author.Tests.{eqb-true, eqb-false, ltb-false}
+use borrow.Author.Tests.{ltb-false}
 use Rattle.laws.specs.Outcome.{done, refused, Line, line, clear, stopped, first, judged, after, first-clear, refused-front, kept-front, done-front}
 use Rattle.laws.specs.Run.{run, run-same}
 use Rattle.laws.specs.Move.{scatter, scatter-same}
@@ -28,22 +27,8 @@ use Rattle.positions.specs.Heard.{Reception, Kept, held, heard}
 use Rattle.adders.specs.Any.{any, any-none}
 use Rattle.adders.specs.Lines.{heardAt, isHigh, isSpoiled, isFull, valueLines, lines-same, ruled, ruled-clear, ruled-stopped}
 use Rattle.adders.specs.Adding.{Fitting, Ready, sumsBy, countsBy}
-use Rattle.combine.specs.Answer.{addLines, addedOf, sumsOf, countsOf, oneOff}
-
--- the one of two lengths that isn't n says whether both are
-pub off-both : (n a b : ℕ) → eqb (oneOff n a b) n ≡ (eqb a n && eqb b n)
-off-both n a b = go (eqb a n) refl
-  where
-    go : (t : Bool) → eqb a n ≡ t → eqb (cond t b a) n ≡ (t && eqb b n)
-    go true e = refl
-    go false e = e
-
-pub both-on : (n x y : ℕ) → oneOff n x y ≡ n → (x ≡ n) × (y ≡ n)
-both-on n x y q = go (eqb x n) refl q
-  where
-    go : (t : Bool) → eqb x n ≡ t → cond t y x ≡ n → (x ≡ n) × (y ≡ n)
-    go true d q = (eqb-true x n d, q)
-    go false d q = absurd (eqb-false x n d q)
+use Rattle.adders.specs.Lengths.{oneOff, off-both, both-on}
+use Rattle.combine.specs.Answer.{addLines, addedOf, sumsOf, countsOf}
 
 -- all that is lent is n long
 pub record Long (n : ℕ) (b : Reception) (h : Kept) : Type 0 where

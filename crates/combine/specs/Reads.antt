@@ -16,8 +16,8 @@ use Rattle.walks.specs.Answer.{planLines, walkedOf, walkValues}
 use Rattle.walks.specs.Whole.{begin}
 use Rattle.tables.specs.Passed.{walked-refused}
 use Rattle.positions.specs.Heard.{Kept, held}
-use Rattle.combine.specs.Answer.{toldOf, bothLong, readLines, readOf, oneOff}
-use Rattle.combine.specs.Passed.{off-both}
+use Rattle.combine.specs.Answer.{toldOf, bothLong, readLines, readOf}
+use Rattle.adders.specs.Lengths.{oneOff, off-both}
 
 module _ (s : Set) (h : Kept) (k : ℕ) where
   abbrev behind : List Line

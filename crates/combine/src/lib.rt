@@ -11,27 +11,17 @@ use tables::SMALL;
 use walks::Walk;
 use walks::Walked;
 ghost use mathlib.Core.Path.{_≡_};
-ghost use Rattle.positions.specs.Heard.{running, reception, kept};
+ghost use Rattle.positions.specs.Heard.{reception, kept};
 ghost use Rattle.laws.specs.Outcome.{done};
 ghost use Rattle.tables.specs.Answer.{sayMoved};
 ghost use Rattle.tables.specs.Passed.{Roomy};
-ghost use Rattle.combine.specs.Answer.{addedOf, sumsOf, countsOf, readOf, sayReading, toldOf, oneOff};
+ghost use Rattle.combine.specs.Answer.{addedOf, sumsOf, countsOf, readOf, sayReading, toldOf};
 
 // What stands at a position: a soft value, which is the running sum and how many values it is of; or a blank, where the count is 0.
 pub enum Reading {
     Soft(Running),
     Blank,
     Refused(Refusal),
-}
-
-// Of two lengths, one that isn't n, if there is one.
-fn off(n: usize, a: usize, b: usize) -> usize
-    ensures { λ r. ⌜ r ≡ oneOff n a b ⌝ }
-{
-    if a != n {
-        return a;
-    }
-    b
 }
 
 // Adds a block by a lent table.
@@ -52,8 +42,8 @@ fn add_by(
         (reception (now (received .entry)) (now (present .entry))) (kept (now (sums .entry)) (now (counts .entry))) ⌝ }
 {
     let n = set.n as usize;
-    let input = off(n, received.len(), present.len());
-    let output = off(n, sums.len(), counts.len());
+    let input = adders::off(n, received.len(), present.len());
+    let output = adders::off(n, sums.len(), counts.len());
     match tables::fill(set, n, input, output, table) {
         Moved::Refused(x) => Moved::Refused(x),
         Moved::Done => {
@@ -96,14 +86,14 @@ pub fn add(
     add_by(set, &mut table, received, present, sums, counts)
 }
 
-// What a position holds that has a count, or a blank.
-fn reading_at(sum: f32, count: u16) -> Reading
-    ensures { λ r. ⌜ sayReading r ≡ done (toldOf (running sum count)) ⌝ }
+// What stands at a position.
+fn reading_at(held: Running) -> Reading
+    ensures { λ r. ⌜ sayReading r ≡ done (toldOf held) ⌝ }
 {
-    if count == 0 {
+    if positions::is_blank(held) {
         return Reading::Blank;
     }
-    Reading::Soft(Running { sum, count })
+    Reading::Soft(held)
 }
 
 // Reads a position, by input index. Refusals 1, 2, 3, 8, 4, 6.
@@ -121,11 +111,14 @@ pub fn read(set: Set, sums: &[f32], counts: &[u16], position: u32) -> Reading
             if position >= set.n {
                 return Reading::Refused(sets::refusal_of(set, 4));
             }
-            if off(set.n as usize, sums.len(), counts.len()) != set.n as usize {
+            if adders::off(set.n as usize, sums.len(), counts.len()) != set.n as usize {
                 return Reading::Refused(sets::refusal_of(set, 6));
             }
             let k = position as usize;
-            reading_at(sums[k], counts[k])
+            reading_at(Running {
+                sum: sums[k],
+                count: counts[k],
+            })
         }
     }
 }

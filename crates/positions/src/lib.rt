@@ -1,7 +1,7 @@
 // One position, which holds the running sum of the values that it received and how many they are: what one reception makes of it, and whether it may.
 // Zero is a value like any other: whether there is one is said by the presence byte and by the count alone.
 ghost use mathlib.Core.Path.{_≡_};
-ghost use lib.Dec.{ltb};
+ghost use lib.Dec.{eqb, ltb};
 ghost use lib.Ieee.Scale.{finite};
 ghost use lib.ListN.{set};
 ghost use Rattle.positions.specs.Heard.{running, kept, held, heard, later, spoils, countAfter, Hears};
@@ -10,6 +10,13 @@ ghost use Rattle.positions.specs.Heard.{running, kept, held, heard, late
 pub struct Running {
     pub sum: f32,
     pub count: u16,
+}
+
+// Whether a position is a blank: nothing was received there.
+pub fn is_blank(held: Running) -> bool
+    ensures { λ r. ⌜ r ≡ eqb (held .count) 0 ⌝ }
+{
+    held.count == 0
 }
 
 // Neither an infinity nor not-a-number.

@@ -1,11 +1,9 @@
 // `combine`: receptions of a block, each from a file, added up; then what each position holds, by input index, with its sum exactly.
-mod decimal; // decimal.rt: an f32 in decimal, exactly
-mod files; // files.rt: the bytes of a file
-mod values; // values.rt: the values of a reception, and which are there
-
 use combine::Reading;
-use decimal::PLACES;
-use files::Got;
+use figures::Got;
+use figures::VALUES;
+use figures::decimal::PLACES;
+use figures::decimal::spell_f32;
 use libc::STDOUT_FILENO;
 use lines::word;
 use sets::Set;
@@ -15,15 +13,9 @@ use tables::Moved;
 use words::text::ROOM;
 use words::text::put;
 use words::text::put_number;
-ghost use Prim.Native.Nat.{_≤_};
 
 // The argument that names the first file: `combine` is argument 1.
 const FIRST: usize = 5;
-
-// The values of a file that are looked at, and their bytes: at most one more than the largest table holds.
-const VALUES: usize = 6145;
-
-const BYTES: usize = 24580;
 
 fn refused(number: u32) {
     words::text::say_line(STDOUT_FILENO, b"refused ", number as u64);
@@ -66,24 +58,13 @@ fn add_first(
     ))
 }
 
-// Adds k values of what a file holds.
-fn add_values(set: Set, k: usize, bytes: &[u8; BYTES], sums: &mut [f32], counts: &mut [u16]) -> bool
-    requires { ⌜ k ≤ 6145 ⌝ }
-{
+// Adds the file that argument i names.
+fn add_file(set: Set, i: usize, sums: &mut [f32], counts: &mut [u16]) -> bool {
     let mut received = [0.0f32; VALUES];
     let mut present = [0u8; VALUES];
-    values::decode(k, bytes, &mut received, &mut present);
-    add_first(set, k, &received, &present, sums, counts)
-}
-
-// Adds the file that argument i names, of which no more is looked at than tells whether it is too long.
-fn add_file(set: Set, i: usize, sums: &mut [f32], counts: &mut [u16]) -> bool {
-    let mut bytes = [0u8; BYTES];
-    let n = values::size_of(set.n);
-    let most = 4 * n + 4;
-    match files::read(i, &mut bytes[..most]) {
+    match figures::reception(set, i, &mut received, &mut present) {
         Got::Failed => false,
-        Got::Bytes(k) => add_values(set, values::count(k, n), &bytes, sums, counts),
+        Got::Of(k) => add_first(set, k, &received, &present, sums, counts),
     }
 }
 
@@ -119,7 +100,7 @@ fn put_rest(room: &mut [u8; ROOM], from: usize, text: &[u8; PLACES], start: usiz
 
 fn put_sum(room: &mut [u8; ROOM], from: usize, sum: f32) -> usize {
     let mut text = [b'0'; PLACES];
-    let start = decimal::spell_f32(sum, &mut text);
+    let start = spell_f32(sum, &mut text);
     put_rest(room, from, &text, start)
 }
 
@@ -181,7 +162,7 @@ pub fn from_files(set: Set) {
         Verdict::Accepted => {
             let mut sums = [0.0f32; LARGE];
             let mut counts = [0u16; LARGE];
-            let n = values::size_of(set.n);
+            let n = figures::size_of(set);
             add_and_show(set, &mut sums[..n], &mut counts[..n]);
         }
     }

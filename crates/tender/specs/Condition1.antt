@@ -1,6 +1,6 @@
 -- Condition 1 of the tender: a refusal is a number, given exactly when document 01 says, in its order, and it changes no lent byte. Each
 -- sentence of 01 is a proposition here. (That every call ends and does nothing undefined is the check itself: no public call has a
--- `requires`.) The stream's calls are in Stream.antt, those for C in crates/exports/specs/Zero.antt.
+-- `requires`.) The stream's calls are in Stream.antt, those for C in Zero.antt and ZeroSums.antt.
 use Prim.Native.Nat.{ℕ, _*_}
 use mathlib.Core.List.{List}
 use mathlib.Core.Logic.{_↔_}

@@ -6,4 +6,6 @@ pub mod Condition3
 pub mod Turbo
 pub mod Stream
 pub mod Combine
+pub mod Zero
+pub mod ZeroSums
 pub mod Stars

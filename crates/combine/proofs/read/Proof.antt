@@ -4,7 +4,7 @@ use native.Mathlib.Omega.{arith}
 use lib.ListN.{length}
 use Rattle.walks.specs.Answer.{sayWalked}
 use Rattle.tables.specs.Passed.{walked-clear}
-use Rattle.combine.specs.Passed.{both-on}
+use Rattle.adders.specs.Lengths.{both-on}
 use Rattle.combine.specs.Reads.{walk-refuses, is-four, is-six, is-told}
 use borrow.Author.Needs.{needs}
 use Rattle.combine.proofs.read.Statement.{statement}
