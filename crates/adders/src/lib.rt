@@ -1,6 +1,5 @@
-// Repeated receptions added up, by a table of addresses: the loop that judges a received block against what is stored, and the loop that adds it; and two
-// lengths asked as one.
-// Whoever calls has filled the table and judged the lengths. No value decides where anything goes.
+// Repeated receptions added up, by a table of addresses: two lengths asked as one, the loop that judges a received block against what is stored, and the
+// loop that adds it. Whoever calls the loops has filled the table and judged the lengths. No value decides where anything goes.
 ghost use mathlib.Core.Path.{_≡_};
 ghost use lib.ListN.{length};
 ghost use Rattle.laws.specs.Loop.{by};

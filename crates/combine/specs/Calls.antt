@@ -17,7 +17,7 @@ use Rattle.sets.specs.declared.Set.{Set}
 use Rattle.sets.specs.declared.Refusal.{Refusal}
 use Rattle.families.specs.Rules.{M}
 use Rattle.positions.specs.declared.Running.{Running}
-use Rattle.positions.specs.Heard.{running, Reception, Kept, kept, held, later, heard}
+use Rattle.positions.specs.Heard.{running, Reception, Kept, kept, held, sumAfter, heard}
 use Rattle.combine.specs.Answer.{addedOf, sumsOf, countsOf}
 use Rattle.combine.specs.Laws.{keptAfter, refused-alone, hears}
 
@@ -47,10 +47,10 @@ inTurn a (v ∷ vs) = inTurn (add binary32 a v) vs
 -- the sum of a position by the values that go to it: if its count is 0 the first of them is stored as it is
 abbrev pub sumBy : Running → List Float → Float
 sumBy r [] = r .sum
-sumBy r (v ∷ vs) = inTurn (later v r) vs
+sumBy r (v ∷ vs) = inTurn (sumAfter v r) vs
 
 -- one value is heard, and then others
-heard-first : (v : Float) (vs : List Float) (r : Running) → sumBy (heard 1 v r) vs ≡ inTurn (later v r) vs
+heard-first : (v : Float) (vs : List Float) (r : Running) → sumBy (heard 1 v r) vs ≡ inTurn (sumAfter v r) vs
 heard-first v [] r = refl
 heard-first v (w ∷ vs) r = ap (λ (x : Float). inTurn x vs) (rw (ne-eqb (r .count + 1) 0 some))
   where
@@ -75,7 +75,7 @@ module _ (s : Set) (k : ℕ) (l : k < s .n) where
       v : Float
       v = getD (b .received) (M s k) nan
 
-      go : (t : Bool) → holding (running (cond t (later v (held h k)) (held h k .sum)) (cond t (held h k .count + 1) (held h k .count))) vs ≡ holding (held h k) (cond t (v ∷ []) [] ++ vs)
+      go : (t : Bool) → holding (running (cond t (sumAfter v (held h k)) (held h k .sum)) (cond t (held h k .count + 1) (held h k .count))) vs ≡ holding (held h k) (cond t (v ∷ []) [] ++ vs)
       go true = hold-first v vs (held h k)
       go false = refl
 

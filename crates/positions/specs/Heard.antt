@@ -38,9 +38,9 @@ kept ss cs = record { sums = ss; counts = cs }
 abbrev pub held : Kept → ℕ → Running
 held h k = running (getD (h .sums) k nan) (getD (h .counts) k 0)
 
--- a present value at a position: the first is stored with its bits unchanged; a later one is added with one rounding
-abbrev pub later : Float → Running → Float
-later v r = cond (eqb (r .count) 0) v (add binary32 (r .sum) v)
+-- a sum after a present value: the first is stored with its bits unchanged; a later one is added with one rounding
+abbrev pub sumAfter : Float → Running → Float
+sumAfter v r = cond (eqb (r .count) 0) v (add binary32 (r .sum) v)
 
 -- one for a presence byte that is 1
 abbrev pub one : ℕ → ℕ
@@ -52,7 +52,7 @@ countAfter p c = cond (eqb p 1) (c + 1) c
 
 -- one reception at a position: a blank changes nothing; a present value is stored or added, and the count rises by one
 abbrev pub heard : ℕ → Float → Running → Running
-heard p v r = running (cond (eqb p 1) (later v r) (r .sum)) (countAfter p (r .count))
+heard p v r = running (cond (eqb p 1) (sumAfter v r) (r .sum)) (countAfter p (r .count))
 
 -- 13 at a position: a present value, a stored sum whose count isn't 0, or the sum of these two isn't finite
 unfoldable pub spoils : ℕ → Float → Running → Bool
@@ -66,7 +66,7 @@ or-false true = refl
 or-false false = refl
 
 -- which is asked of one float: of a present value, the sum that the position would have
-pub present-spoils : (p : ℕ) (v : Float) (r : Running) → p ≡ 1 → not (finite (later v r)) ≡ spoils p v r
+pub present-spoils : (p : ℕ) (v : Float) (r : Running) → p ≡ 1 → not (finite (sumAfter v r)) ≡ spoils p v r
 unfolding spoils
 present-spoils p v r e =
     rw (eq-eqb p 1 e) (go (eqb (r .count) 0) (finite v) (finite (r .sum)) (finite (add binary32 (r .sum) v)) (finite-parts binary32 (r .sum) v) v (add binary32 (r .sum) v) refl refl)

@@ -4,7 +4,7 @@ ghost use mathlib.Core.Path.{_≡_};
 ghost use lib.Dec.{eqb, ltb};
 ghost use lib.Ieee.Scale.{finite};
 ghost use lib.ListN.{set};
-ghost use Rattle.positions.specs.Heard.{running, kept, held, heard, later, spoils, countAfter, Hears};
+ghost use Rattle.positions.specs.Heard.{running, kept, held, heard, sumAfter, spoils, countAfter, Hears};
 
 // What a position holds: the running sum of the values that it received, and how many they are.
 pub struct Running {
@@ -29,7 +29,7 @@ fn is_finite(x: f32) -> bool
 
 // The sum of a position after a present value: the first is stored as it is, a later one is added with one rounding.
 fn sum_after(v: f32, sum: f32, count: u16) -> f32
-    ensures { λ r. ⌜ r ≡ later v (running sum count) ⌝ }
+    ensures { λ r. ⌜ r ≡ sumAfter v (running sum count) ⌝ }
 {
     if count == 0 {
         return v;
