@@ -5,14 +5,5 @@ use lib.Seq.{length-take-le}
 use Rattle.receptions.proofs.first.Statement.{statement}
 use Rattle.receptions.proofs.first.Tie as tie
 
-slice-aggregate-result : tie.Need-slice-aggregate-result
-slice-aggregate-result c = sym (length-take-le _ _ (search needs))
-
-returns : tie.Need-returns
-returns c = search needs
-
-returns-2 : tie.Need-returns-2
-returns-2 c = search needs
-
 pub first-spec : {M : Type 1} → statement M
-first-spec = tie.close (tie.spec slice-aggregate-result returns returns-2)
+first-spec = tie.close (tie.spec (λ c. sym (length-take-le _ _ (search needs))) (λ c. search needs) (λ c. search needs))

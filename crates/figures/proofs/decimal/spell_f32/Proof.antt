@@ -13,18 +13,6 @@ number nan h = absurd (false≢true (sym h))
 number (inf s) h = tt
 number (fin s m e) h = tt
 
-returns : tie.Need-returns
-returns c = search needs
-
-float-to-bits-spell-bits : tie.Need-float-to-bits-spell-bits
-float-to-bits-spell-bits c = number _ (c .if1 .left)
-
-spell-bits-requires : tie.Need-spell-bits-requires
-spell-bits-requires c κs = search needs
-
-returns-2 : tie.Need-returns-2
-returns-2 c = search needs
-
 pub spell-f32-spec : {M : Type 1} → statement M
 spell-f32-spec =
-    tie.close (tie.spec returns float-to-bits-spell-bits spell-bits-requires returns-2)
+    tie.close (tie.spec (λ c. search needs) (λ c. number _ (c .if1 .left)) (λ c κs. search needs) (λ c. search needs))

@@ -5,8 +5,5 @@ use mathlib.Core.Path.{sym}
 use Rattle.figures.proofs.values.is_blank.Statement.{statement}
 use Rattle.figures.proofs.values.is_blank.Tie as tie
 
-returns : tie.Need-returns
-returns c = sym (nanBits-above binary32 _)
-
 pub is-blank-spec : {M : Type 1} → statement M
-is-blank-spec = tie.close (tie.spec returns)
+is-blank-spec = tie.close (tie.spec (λ c. sym (nanBits-above binary32 _)))
