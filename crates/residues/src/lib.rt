@@ -11,11 +11,16 @@ pub fn gcd_of(a: u32, b: u32) -> u32
     if b == 0 { a } else { gcd_of(b, a % b) }
 }
 
-// The sum of two numbers below k, modulo k: a comparison and no division.
+// A difference that wraps round below 0 is at least this.
+const WRAPPED: usize = 9223372036854775808;
+
+// The sum of two numbers below k, modulo k, with no division: k is taken off, and where that wraps round the sum stands. So the
+// subtraction is its own test, and in machine code the choice is no jump.
 pub fn plus(k: usize, a: usize, b: usize) -> usize
     requires { ⌜ (a < k) × (b < k) × (k < 65536) ⌝ }
     ensures { λ r. ⌜ r ≡ (a + b) % k ⌝ }
 {
     let sum = a + b;
-    if sum < k { sum } else { sum - k }
+    let less = std::num::wrapping_sub_usize(sum, k);
+    if less < WRAPPED { less } else { sum }
 }

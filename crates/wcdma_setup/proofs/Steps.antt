@@ -1,11 +1,14 @@
 -- One turn of the loops that make S and q.
 use Prim.Native.Nat.{ℕ, suc, _+_, _*_, _-_, _%_, _≤_, _<_}
-use mathlib.Core.Bool.{Bool, true, false, _||_, false≢true}
-use mathlib.Core.Path.{_≡_, refl, ap, sym, _∙_}
+use mathlib.Core.Bool.{true, false, or-false}
+use mathlib.Core.List.{[], _∷_}
+use mathlib.Core.Path.{_≡_, ap, sym, _∙_}
+use native.Mathlib.Nat.{add-mod, add-mul, one-mul, mod-eq-of-lt, mod-lt}
 use native.Mathlib.Omega.{arith}
 use native.Mathlib.Numerals.{add-one}
 use lib.Dec.{eqb}
-use borrow.Author.Tests.{eq-eqb, ne-eqb, eqb-true}
+use borrow.Author.Tests.{eq-eqb, ne-eqb}
+use Rattle.laws.specs.Members.{All, by-member, one-of}
 use Rattle.wcdma_shape.specs.Powers.{power, isTableRoot}
 use Rattle.wcdma_setup.specs.Numbers.{nextQ, qOf, allFound}
 
@@ -13,19 +16,26 @@ pub power-next : (p v x last : ℕ) → last ≡ power p v x → v * last % p �
 unfolding power
 power-next p v x last e = rw (e, add-one)
 
--- v is at most 19
-pub six-small : (v : ℕ) → isTableRoot v ≡ true → v ≤ 19
-six-small v e = go (eqb v 2) refl (eqb v 3) refl (eqb v 5) refl (eqb v 6) refl (eqb v 7) refl (eqb v 19) refl e
-  where
-    go : (a : Bool) → eqb v 2 ≡ a → (b : Bool) → eqb v 3 ≡ b → (c : Bool) → eqb v 5 ≡ c → (d : Bool) → eqb v 6 ≡ d → (f : Bool) → eqb v 7 ≡ f → (g : Bool) → eqb v 19 ≡ g
-        → (a || (b || (c || (d || (f || g))))) ≡ true → v ≤ 19
-    go true x b y c z d u f t g s e = omega (arith, eqb-true v 2 x)
-    go false x true y c z d u f t g s e = omega (arith, eqb-true v 3 y)
-    go false x false y true z d u f t g s e = omega (arith, eqb-true v 5 z)
-    go false x false y false z true u f t g s e = omega (arith, eqb-true v 6 u)
-    go false x false y false z false u true t g s e = omega (arith, eqb-true v 7 t)
-    go false x false y false z false u false t true s e = omega (arith, eqb-true v 19 s)
-    go false x false y false z false u false t false s e = absurd (false≢true e)
+-- a is n times x modulo p
+pub record Times (p x n a : ℕ) : Type 0 where
+  pub is : a ≡ n * x % p
+  pub low : a < p
+
+pub once : {p x : ℕ} → x < p → Times p x 1 x
+once {p} {x} h = record { is = sym (ap (λ (y : ℕ). y % p) (one-mul x) ∙ mod-eq-of-lt h); low = h }
+
+-- a sum modulo p of what is m times and n times x is m + n times x
+pub times-sum : {p x m n a b r : ℕ} → Times p x m a → Times p x n b → r ≡ (a + b) % p → Times p x (m + n) r
+times-sum {p} {x} {m} {n} {a} {b} s t e =
+    let h = s .low in
+    record {
+      is = e ∙ rw (s .is, t .is) (sym (add-mod (m * x) (n * x) p) ∙ ap (λ (y : ℕ). y % p) (sym (add-mul m n x)));
+      low = rw e (mod-lt (a + b) (omega arith));
+    }
+
+-- what holds of the six numbers that v can be holds of v
+pub each-root : (P : ℕ → Type 0) → All P (2 ∷ 3 ∷ 5 ∷ 6 ∷ 7 ∷ 19 ∷ []) → (v : ℕ) → isTableRoot v ≡ true → P v
+each-root P h v e = by-member P (2 ∷ 3 ∷ 5 ∷ 6 ∷ 7 ∷ 19 ∷ []) h (one-of v (2 ∷ 3 ∷ 5 ∷ 6 ∷ 7 ∷ 19 ∷ []) (rw or-false e))
 
 pub q-next : (m i last : ℕ) → 1 ≤ i → last ≡ qOf m (i - 1) → nextQ m last ≡ qOf m i
 unfolding qOf

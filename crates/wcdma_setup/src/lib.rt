@@ -1,6 +1,7 @@
 // The set-up of a WCDMA block, 3GPP TS 25.212 4.2.3.2.3: the powers S (defined in crate wcdma_shape, specs/Powers.antt) and the numbers q of its rectangle (specs/Numbers.antt). A
 // walk pays this once a call.
 use residues::gcd_of;
+use residues::plus;
 ghost use mathlib.Core.Path.{_≡_};
 ghost use Prim.Native.Nat.{ℕ, _*_, _-_, _%_, _<_};
 ghost use lib.ListN.{getD};
@@ -55,12 +56,42 @@ pub fn find_numbers(m: u32, r: usize, q: &mut [u32; 20]) -> bool
     true
 }
 
+// v times last, modulo p, with no product: sums modulo p of last and of its multiples before it, as source 002 has it, by the shortest chain
+// for each v: 2; 2, 3; 2, 3, 5; 2, 3, 6; 2, 3, 6, 7; 2, 3, 6, 7, 12, 19. v is asked by its order, which the compiler takes out of the loop over
+// the powers: a loop for each v.
+fn times(p: usize, v: u32, last: usize) -> usize
+    requires { ⌜ StepIn p v last ⌝ }
+    ensures { λ r. ⌜ r ≡ v * last % p ⌝ }
+{
+    let two = plus(p, last, last);
+    if v < 3 {
+        return two;
+    }
+    let three = plus(p, two, last);
+    if v < 5 {
+        return three;
+    }
+    if v < 6 {
+        return plus(p, three, two);
+    }
+    let six = plus(p, three, three);
+    if v < 7 {
+        return six;
+    }
+    let seven = plus(p, six, last);
+    if v < 19 {
+        return seven;
+    }
+    let twelve = plus(p, six, six);
+    plus(p, twelve, seven)
+}
+
 // The next power from the last.
 fn next_power(p: u32, v: u32, last: u32) -> u32
     requires { ⌜ StepIn p v last ⌝ }
     ensures { λ r. ⌜ r ≡ v * last % p ⌝ }
 {
-    v * last % p
+    times(p as usize, v, last as usize) as u32
 }
 
 // What is taken off a power: 1 where C = p - 1, else 0.
