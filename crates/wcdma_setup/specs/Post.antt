@@ -1,5 +1,5 @@
 -- What the functions of the set-up are given and ensure, part by part. These are definitions.
-use Prim.Native.Nat.{ℕ, _-_, _%_, _<_, _≤_}
+use Prim.Native.Nat.{ℕ, _+_, _-_, _/_, _%_, _<_, _≤_}
 use mathlib.Core.List.{List}
 use mathlib.Core.Bool.{Bool, true, cond}
 use mathlib.Core.Path.{_≡_}
@@ -38,10 +38,24 @@ pub record StepIn (p v last : ℕ) : Type 0 where
   pub six : isTableRoot v ≡ true
   pub below : last < p
 
+-- the first half of the powers is there
+pub record HalfIn (top half : ℕ) (s : List ℕ) : Type 0 where
+  pub room : half + half ≤ 256
+  pub small : top < 65536
+  pub low : (x : ℕ) → x < half → getD s x 0 ≤ top
+  pub long : length s ≡ 256
+
+-- of the second half n are made: each is one of the first, taken from top
+pub record HalvesOf (top half n : ℕ) (s after : List ℕ) : Type 0 where
+  pub first : (x : ℕ) → x < half → getD after x 0 ≡ getD s x 0
+  pub second : (x : ℕ) → x < n → getD after (half + x) 0 ≡ top - getD s x 0
+
 pub record PowersIn (p v less : ℕ) (s : List ℕ) : Type 0 where
   pub big : 6 < p
   pub small : p < 258
   pub six : isTableRoot v ≡ true
   pub some : (x : ℕ) → 0 < power p v x
+  pub odd : p % 2 ≡ 1
+  pub second : (x : ℕ) → power p v (x + (p - 1) / 2) ≡ p - power p v x
   pub least : less ≤ 1
   pub long : length s ≡ 256

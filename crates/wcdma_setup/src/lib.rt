@@ -6,7 +6,7 @@ ghost use mathlib.Core.Path.{_≡_};
 ghost use Prim.Native.Nat.{ℕ, _*_, _-_, _%_, _<_};
 ghost use lib.ListN.{getD};
 ghost use Rattle.wcdma_shape.specs.Powers.{power};
-ghost use Rattle.wcdma_setup.specs.Post.{NextOf, NumbersIn, NumbersOf, shortBy, StepIn, PowersIn};
+ghost use Rattle.wcdma_setup.specs.Post.{NextOf, NumbersIn, NumbersOf, shortBy, StepIn, HalfIn, HalvesOf, PowersIn};
 
 // The least prime above 6 and above last, which is odd, that has no common divisor with m; 0 if it would be above 89. An even number is no
 // candidate, and an odd one is a prime where no odd number up to its root divides it.
@@ -102,17 +102,30 @@ pub fn short_by(c: usize, p: usize) -> u32
     if c == p - 1 { 1 } else { 0 }
 }
 
-// S(x), less 1 where C = p - 1; x below p - 1.
+// Behind the first half of the powers, each of them taken from top.
+fn second_half(top: usize, half: usize, s: &mut [u16; 256])
+    requires { ⌜ HalfIn top half (now s) ⌝ }
+    ensures { λ _. ⌜ HalvesOf top half half (now (s .entry)) (now (s .exit)) ⌝ }
+{
+    let mut x = 0;
+    while x < half {
+        s[half + x] = (top - wcdma_shape::wide16(s[x])) as u16;
+        x += 1;
+    }
+}
+
+// S(x), less 1 where C = p - 1; x below p - 1. Halfway S is p - 1, and from there on p less what it was, so half of it is stepped.
 pub fn powers(p: u32, v: u32, less: u32, s: &mut [u16; 256])
     requires { ⌜ PowersIn p v less (now s) ⌝ }
     ensures { λ _. ⌜ ((x : ℕ) → x < p - 1 → getD (now (s .exit)) x 0 ≡ power p v x - less) ⌝ }
 {
-    let m = (p - 1) as usize;
+    let half = ((p - 1) / 2) as usize;
     let mut last = 1;
     let mut x = 0;
-    while x < m {
+    while x < half {
         s[x] = (last - less) as u16;
         last = next_power(p, v, last);
         x += 1;
     }
+    second_half((p - less - less) as usize, half, s);
 }

@@ -1,5 +1,5 @@
 -- What the walk hands to its parts, and what its answer says.
-use Prim.Native.Nat.{ℕ, _-_, _/_, _%_, _≤_, _<_}
+use Prim.Native.Nat.{ℕ, _+_, _-_, _/_, _%_, _≤_, _<_}
 use mathlib.Core.Bool.{Bool, true, false, not, cond}
 use mathlib.Core.List.{List, _++_}
 use mathlib.Core.Path.{_≡_, refl, ap, ap₂, sym, _∙_, subst}
@@ -19,6 +19,7 @@ use Rattle.wcdma_shape.specs.Powers.{power, root}
 use Rattle.wcdma_setup.specs.Numbers.{qOf, allFound, searchFails}
 use Rattle.wcdma_shape.specs.Shape.{rows-pos, cols-high, prime-small}
 use Rattle.wcdma_shape.specs.Roots.{prime-root, power-pos}
+use Rattle.wcdma_shape.specs.Halves.{second-half}
 use Rattle.wcdma_shape.specs.Post.{ShapeOf}
 use Rattle.wcdma_setup.specs.Post.{NumbersOf, shortBy}
 use Rattle.wcdma.specs.Turbo.{addresses, turboL, turboRule}
@@ -47,6 +48,10 @@ searched z s q found n = record {
 -- the powers of a root are never 0
 pub power-some : (k x : ℕ) {p v : ℕ} → p ≡ prime k → v ≡ root (prime k) → 0 < power p v x
 power-some k x e f = rw (e, f) (power-pos (prime-root k) x)
+
+-- and from halfway on are those from the first on, taken from p
+pub power-second : (k x : ℕ) {p v : ℕ} → p ≡ prime k → v ≡ root (prime k) → power p v (x + (p - 1) / 2) ≡ p - power p v x
+power-second k x e f = rw (e, f) (second-half k x)
 
 module _ {z : Shape} {q : List ℕ} {cell : ℕ} (b : ByIn z q cell) where
   pub rows-some : 0 < z .r

@@ -1,4 +1,5 @@
--- `powers` fills S step by step. The invariant: the powers below x stand in their places, and last is the power x.
+-- `powers` fills the first half of S step by step, and has the second half from it. The invariant: the powers below x stand in their places,
+-- and last is the power x.
 use Prim.Native.Nat.{_-_, _<_, _≤_, ℕ}
 use borrow.Author.Count.{below-none}
 use borrow.Author.Needs.{needs}
@@ -7,22 +8,23 @@ use mathlib.Core.Path.{_∙_, _≡_, ap, refl}
 use native.Mathlib.Nat.{mod-lt}
 use native.Mathlib.Omega.{arith}
 use Rattle.laws.specs.Entries.{fill-more}
+use Rattle.wcdma_setup.proofs.Halves.{power-low, both-halves}
 use Rattle.wcdma_setup.proofs.Steps.{power-next}
 use Rattle.wcdma_shape.specs.Powers.{power}
 use Rattle.wcdma_setup.proofs.powers.Statement.{statement}
 use Rattle.wcdma_setup.proofs.powers.Tie as tie
 
 abbrev Inv-loop : tie.InvT-loop
-Inv-loop p v less s₀ m last₀ x₀ s last x = (x ≤ m) × (length s ≡ 256) × (last < p) × (last ≡ power p v x) × ((y : ℕ) → y < x → getD s y 0 ≡ power p v y - less)
+Inv-loop p v less s₀ half last₀ x₀ s last x = (x ≤ half) × (length s ≡ 256) × (last < p) × (last ≡ power p v x) × ((y : ℕ) → y < x → getD s y 0 ≡ power p v y - less)
 
 abbrev μ-loop : tie.MeasureT-loop
-μ-loop p v less s₀ m last₀ x₀ s last x = m - x
+μ-loop p v less s₀ half last₀ x₀ s last x = half - x
 
-sub-m : tie.Need-sub-m Inv-loop μ-loop
-sub-m c = search needs
+sub-half : tie.Need-sub-half Inv-loop μ-loop
+sub-half c = search needs
 
-cast-m : tie.Need-cast-m Inv-loop μ-loop
-cast-m c = search needs
+cast-half : tie.Need-cast-half Inv-loop μ-loop
+cast-half c = search needs
 
 loop-holds : tie.Need-loop-holds Inv-loop μ-loop
 unfolding power
@@ -63,8 +65,31 @@ loop-again c =
           (omega (arith, l .inv .1, c .before .loop-test .taken, z .small)) (ap (λ (y : ℕ). y - a .less) (l .inv .3)) (l .inv .4),
     )
 
+sub-second-half : tie.Need-sub-second-half Inv-loop μ-loop
+sub-second-half c = let z = c .before .before .pre in omega (arith, z .least, z .big)
+
+sub-second-half-2 : tie.Need-sub-second-half-2 Inv-loop μ-loop
+sub-second-half-2 c = let z = c .before .before .pre in omega (arith, z .least, z .big)
+
+cast-second-half : tie.Need-cast-second-half Inv-loop μ-loop
+cast-second-half c = let z = c .before .before .pre in omega (arith, z .small)
+
+second-half-requires : tie.Need-second-half-requires Inv-loop μ-loop
+second-half-requires c κs =
+    let z = c .before .before .before .pre in
+    let l = c .before .before .loop in
+    record {
+      room = omega (arith, z .small);
+      small = omega (arith, z .small);
+      low = λ x h.
+          omega (arith, l .inv .4 x (omega (arith, c .before .loop-test .left)), power-low z x, z .least);
+      long = l .inv .1;
+    }
+
 returns : tie.Need-returns Inv-loop μ-loop
-returns c = λ x h. c .before .loop .inv .4 x (omega (arith, c .loop-test .left))
+returns c =
+    let l = c .before .before .before .loop in
+    both-halves (c .before .before .before .before .pre) (λ x h. l .inv .4 x (omega (arith, c .before .before .loop-test .left))) (c .second-half .ensures)
 
 pub powers-spec : {M : Type 1} → statement M
 powers-spec =
@@ -72,8 +97,8 @@ powers-spec =
     (tie.spec
     Inv-loop
     μ-loop
-    sub-m
-    cast-m
+    sub-half
+    cast-half
     loop-holds
     sub-s
     cast-s
@@ -83,4 +108,8 @@ powers-spec =
     add-x
     loop-less
     loop-again
+    sub-second-half
+    sub-second-half-2
+    cast-second-half
+    second-half-requires
     returns)

@@ -2,10 +2,11 @@
 use borrow.Author.Needs.{needs}
 use mathlib.Core.Path.{_∙_, ap, refl}
 use native.Mathlib.Omega.{arith}
+use Rattle.wcdma_shape.specs.Halves.{prime-odd}
 use Rattle.wcdma_shape.specs.Powers.{isTableRoot}
 use Rattle.wcdma_shape.specs.Roots.{prime-root}
 use Rattle.wcdma_shape.specs.Shape.{prime-big, prime-small}
-use Rattle.wcdma_walk.proofs.Setup.{column-small, exchange-went, fill-in, power-some, rows-some, short-le}
+use Rattle.wcdma_walk.proofs.Setup.{column-small, exchange-went, fill-in, power-second, power-some, rows-some, short-le}
 use Rattle.wcdma_walk.proofs.walk_by.Statement.{statement}
 use Rattle.wcdma_walk.proofs.walk_by.Tie as tie
 
@@ -25,6 +26,8 @@ powers-requires c κs =
       small = omega (arith, prime-small (a .k), h .prime-is);
       six = ap isTableRoot (h .root-is) ∙ r .six;
       some = λ x. power-some (a .k) x (h .prime-is) (h .root-is);
+      odd = omega (arith, prime-odd (a .k), h .prime-is);
+      second = λ x. power-second (a .k) x (h .prime-is) (h .root-is);
       least = short-le (a .c) (a .p) _ (c .before .short-by .ensures);
       long = refl;
     }
