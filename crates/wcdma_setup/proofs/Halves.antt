@@ -23,19 +23,20 @@ one-more {top} {half} {x} {s₀} {s} a r l h e =
           (eq-or-lt-of-le {n = y} {m = x} (omega arith));
     }
 
--- the rest to p, less as much
+-- of two numbers that add up to p, the one from the other, both less as much
 rest : (p a b less : ℕ) → a + b ≡ p → less ≤ a → less ≤ b → p - less - less - (a - less) ≡ b - less
 rest p a b less e h l = omega arith
 
--- the powers of the first half, and each of them taken from p, are all of them
+-- the powers, by halves
 module _ {p v less : ℕ} {s₀ : List ℕ} (z : PowersIn p v less s₀) where
   pub power-low : (x : ℕ) → power p v x < p
   power-low x = omega (arith, z .second x, z .some (x + (p - 1) / 2), z .big)
 
   -- two that are half of the powers apart add up to p
-  opposite : (x : ℕ) → power p v x + power p v (x + (p - 1) / 2) ≡ p
-  opposite x = omega (arith, z .second x, power-low x)
+  half-apart : (x : ℕ) → power p v x + power p v (x + (p - 1) / 2) ≡ p
+  half-apart x = omega (arith, z .second x, power-low x)
 
+  -- the first half, and each of it taken from p, are all of them
   pub both-halves : {s after : List ℕ} → ((x : ℕ) → x < (p - 1) / 2 → getD s x 0 ≡ power p v x - less) → HalvesOf (p - less - less) ((p - 1) / 2) ((p - 1) / 2) s after
       → (x : ℕ) → x < p - 1 → getD after x 0 ≡ power p v x - less
   both-halves {s} {after} e r x l = go (decLt x ((p - 1) / 2))
@@ -47,7 +48,7 @@ module _ {p v less : ℕ} {s₀ : List ℕ} (z : PowersIn p v less s₀) where
           let y = x - half in
           let far : half + y ≡ x = omega arith in
           let near : y < half = omega (arith, z .odd) in
-          let sum : power p v y + power p v x ≡ p = ap (λ (i : ℕ). power p v y + power p v i) (let w : x ≡ y + half = omega arith in w) ∙ opposite y in
+          let sum : power p v y + power p v x ≡ p = ap (λ (i : ℕ). power p v y + power p v i) (let w : x ≡ y + half = omega arith in w) ∙ half-apart y in
           ap (λ (i : ℕ). getD after i 0) (sym far)
           ∙ r .second y near
           ∙ ap (λ (i : ℕ). p - less - less - i) (e y near)

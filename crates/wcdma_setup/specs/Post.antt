@@ -38,7 +38,7 @@ pub record StepIn (p v last : ℕ) : Type 0 where
   pub six : isTableRoot v ≡ true
   pub below : last < p
 
--- the first half of the powers is there
+-- the first half is there, none of it above top
 pub record HalfIn (top half : ℕ) (s : List ℕ) : Type 0 where
   pub room : half + half ≤ 256
   pub small : top < 65536
@@ -50,6 +50,7 @@ pub record HalvesOf (top half n : ℕ) (s after : List ℕ) : Type 0 where
   pub first : (x : ℕ) → x < half → getD after x 0 ≡ getD s x 0
   pub second : (x : ℕ) → x < n → getD after (half + x) 0 ≡ top - getD s x 0
 
+-- what is asked of p and v: the powers are never 0, and those from halfway on are those from the first on, taken from p
 pub record PowersIn (p v less : ℕ) (s : List ℕ) : Type 0 where
   pub big : 6 < p
   pub small : p < 258

@@ -58,7 +58,7 @@ pub fn find_numbers(m: u32, r: usize, q: &mut [u32; 20]) -> bool
 
 // v times last, modulo p, with no product: sums modulo p of last and of its multiples before it, as source 002 has it, by the shortest chain
 // for each v: 2; 2, 3; 2, 3, 5; 2, 3, 6; 2, 3, 6, 7; 2, 3, 6, 7, 12, 19. v is asked by its order, which the compiler takes out of the loop over
-// the powers: a loop for each v.
+// the powers.
 fn times(p: usize, v: u32, last: usize) -> usize
     requires { ⌜ StepIn p v last ⌝ }
     ensures { λ r. ⌜ r ≡ v * last % p ⌝ }
@@ -102,7 +102,7 @@ pub fn short_by(c: usize, p: usize) -> u32
     if c == p - 1 { 1 } else { 0 }
 }
 
-// Behind the first half of the powers, each of them taken from top.
+// The second half of the powers: each of the first, taken from top.
 fn second_half(top: usize, half: usize, s: &mut [u16; 256])
     requires { ⌜ HalfIn top half (now s) ⌝ }
     ensures { λ _. ⌜ HalvesOf top half half (now (s .entry)) (now (s .exit)) ⌝ }
