@@ -11,7 +11,7 @@ pub fn gcd_of(a: u32, b: u32) -> u32
     if b == 0 { a } else { gcd_of(b, a % b) }
 }
 
-// A difference that wraps round below 0 is at least this.
+// Of two numbers below this, a difference that wraps round below 0 is at least this.
 const WRAPPED: usize = 9223372036854775808;
 
 // The sum of two numbers below k, modulo k, with no division: k is taken off, and where that wraps round the sum stands. So the

@@ -10,6 +10,7 @@ use lib.ListN.{getD, length, set}
 use lib.Seq.{getD-set-same, getD-set-other}
 use Rattle.wcdma_setup.specs.Post.{HalvesOf, PowersIn}
 use Rattle.wcdma_shape.specs.Powers.{power}
+use Rattle.wcdma_shape.specs.Roots.{power-lt, power-pos}
 
 pub one-more : {top half x : ℕ} {s₀ s : List ℕ} (a : ℕ) → HalvesOf top half x s₀ s → x < half → half + half ≤ length s → a ≡ top - getD s x 0
     → HalvesOf top half (x + 1) s₀ (set s (half + x) a)
@@ -29,12 +30,9 @@ rest p a b less e h l = omega arith
 
 -- the powers, by halves
 module _ {p v less : ℕ} {s₀ : List ℕ} (z : PowersIn p v less s₀) where
-  pub power-low : (x : ℕ) → power p v x < p
-  power-low x = omega (arith, z .second x, z .some (x + (p - 1) / 2), z .big)
-
   -- two that are half of the powers apart add up to p
   half-apart : (x : ℕ) → power p v x + power p v (x + (p - 1) / 2) ≡ p
-  half-apart x = omega (arith, z .second x, power-low x)
+  half-apart x = omega (arith, z .second x, power-lt (z .root) x)
 
   -- the first half, and each of it taken from p, are all of them
   pub both-halves : {s after : List ℕ} → ((x : ℕ) → x < (p - 1) / 2 → getD s x 0 ≡ power p v x - less) → HalvesOf (p - less - less) ((p - 1) / 2) ((p - 1) / 2) s after
@@ -52,4 +50,4 @@ module _ {p v less : ℕ} {s₀ : List ℕ} (z : PowersIn p v less s₀) where
           ap (λ (i : ℕ). getD after i 0) (sym far)
           ∙ r .second y near
           ∙ ap (λ (i : ℕ). p - less - less - i) (e y near)
-          ∙ rest p (power p v y) (power p v x) less sum (omega (arith, z .some y, z .least)) (omega (arith, z .some x, z .least))
+          ∙ rest p (power p v y) (power p v x) less sum (omega (arith, power-pos (z .root) y, z .least)) (omega (arith, power-pos (z .root) x, z .least))

@@ -1,12 +1,11 @@
--- One turn of the loops that make S and q.
+-- One turn of the loops that make S and q, and the sums of the step of S.
 use Prim.Native.Nat.{ℕ, suc, _+_, _*_, _-_, _%_, _≤_, _<_}
 use mathlib.Core.Bool.{true, false, or-false}
-use mathlib.Core.List.{[], _∷_}
+use mathlib.Core.List.{List, [], _∷_}
 use mathlib.Core.Path.{_≡_, ap, sym, _∙_}
 use native.Mathlib.Nat.{add-mod, add-mul, one-mul, mod-eq-of-lt, mod-lt}
 use native.Mathlib.Omega.{arith}
 use native.Mathlib.Numerals.{add-one}
-use lib.Dec.{eqb}
 use borrow.Author.Tests.{eq-eqb, ne-eqb}
 use Rattle.laws.specs.Members.{All, by-member, one-of}
 use Rattle.wcdma_shape.specs.Powers.{power, isTableRoot}
@@ -33,9 +32,12 @@ times-sum {p} {x} {m} {n} {a} {b} s t e =
       low = rw e (mod-lt (a + b) (omega arith));
     }
 
--- what holds of the six numbers that v can be holds of v
-pub each-root : (P : ℕ → Type 0) → All P (2 ∷ 3 ∷ 5 ∷ 6 ∷ 7 ∷ 19 ∷ []) → (v : ℕ) → isTableRoot v ≡ true → P v
-each-root P h v e = by-member P (2 ∷ 3 ∷ 5 ∷ 6 ∷ 7 ∷ 19 ∷ []) h (one-of v (2 ∷ 3 ∷ 5 ∷ 6 ∷ 7 ∷ 19 ∷ []) (rw or-false e))
+-- the numbers that v can be: what holds of each holds of v
+abbrev pub six : List ℕ
+six = 2 ∷ 3 ∷ 5 ∷ 6 ∷ 7 ∷ 19 ∷ []
+
+pub each-root : (P : ℕ → Type 0) → All P six → (v : ℕ) → isTableRoot v ≡ true → P v
+each-root P h v e = by-member P six h (one-of v six (rw or-false e))
 
 pub q-next : (m i last : ℕ) → 1 ≤ i → last ≡ qOf m (i - 1) → nextQ m last ≡ qOf m i
 unfolding qOf

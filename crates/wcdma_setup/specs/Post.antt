@@ -7,6 +7,7 @@ use lib.ListN.{getD, length}
 use lib.Dec.{eqb}
 use Rattle.wcdma_shape.specs.Rectangle.{rows, prime}
 use Rattle.wcdma_shape.specs.Powers.{power, isTableRoot}
+use Rattle.wcdma_shape.specs.Roots.{Root}
 use Rattle.wcdma_setup.specs.Numbers.{nextQ, qOf, allFound}
 
 -- the next q, or 0; it is odd
@@ -50,12 +51,10 @@ pub record HalvesOf (top half n : ℕ) (s after : List ℕ) : Type 0 where
   pub first : (x : ℕ) → x < half → getD after x 0 ≡ getD s x 0
   pub second : (x : ℕ) → x < n → getD after (half + x) 0 ≡ top - getD s x 0
 
--- what is asked of p and v: the powers are never 0, and those from halfway on are those from the first on, taken from p
+-- v is a primitive root of p, which is odd, and the powers from halfway on are those from the first on, taken from p
 pub record PowersIn (p v less : ℕ) (s : List ℕ) : Type 0 where
-  pub big : 6 < p
   pub small : p < 258
-  pub six : isTableRoot v ≡ true
-  pub some : (x : ℕ) → 0 < power p v x
+  pub root : Root p v
   pub odd : p % 2 ≡ 1
   pub second : (x : ℕ) → power p v (x + (p - 1) / 2) ≡ p - power p v x
   pub least : less ≤ 1

@@ -56,9 +56,9 @@ pub fn find_numbers(m: u32, r: usize, q: &mut [u32; 20]) -> bool
     true
 }
 
-// v times last, modulo p, with no product: sums modulo p of last and of its multiples before it, as source 002 has it, by the shortest chain
-// for each v: 2; 2, 3; 2, 3, 5; 2, 3, 6; 2, 3, 6, 7; 2, 3, 6, 7, 12, 19. v is asked by its order, which the compiler takes out of the loop over
-// the powers.
+// v times last, modulo p, with no product: sums modulo p of last and of its multiples before it, as in source 002, by a shortest chain for each
+// v: 2; 2, 3; 2, 3, 5; 2, 3, 6; 2, 3, 6, 7; 2, 3, 6, 7, 12, 19. Asked by its order, v is mostly asked before the loop over the powers, by the
+// compiler, and not at each.
 fn times(p: usize, v: u32, last: usize) -> usize
     requires { ⌜ StepIn p v last ⌝ }
     ensures { λ r. ⌜ r ≡ v * last % p ⌝ }

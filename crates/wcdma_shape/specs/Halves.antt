@@ -3,12 +3,13 @@
 use Prim.Native.Nat.{ℕ, zero, suc, _+_, _*_, _-_, _/_, _%_, _<_}
 use mathlib.Core.Bool.{Bool, true, _&&_}
 use mathlib.Core.Path.{_≡_, refl, ap, sym, _∙_}
-use native.Mathlib.Nat.{zero-add, suc-add, one-mul, mul-comm, mul-assoc, mod-eq-of-lt}
+use native.Mathlib.Nat.{zero-add, suc-add, one-mul, mul-assoc, mod-eq-of-lt, mod-mod}
 use native.Mathlib.Omega.{arith}
 use lib.Dec.{eqb}
 use borrow.Author.Tests.{eqb-true}
 use Rattle.laws.specs.Digits.{less-one, low}
 use Rattle.laws.specs.Members.{both, every, at-each}
+use Rattle.laws.specs.Residue.{mul-mod}
 use Rattle.laws.specs.Units.{mul-mod-in}
 use Rattle.wcdma_shape.specs.Rectangle.{primes, prime}
 use Rattle.wcdma_shape.specs.Powers.{power, firstOne, generates, rootFrom, root}
@@ -48,9 +49,8 @@ module _ {p v : ℕ} (r : Root p v) where
       ap (power p v) (suc-add x y)
       ∙ ap (λ (z : ℕ). v * z % p) (power-add x y)
       ∙ mul-mod-in v (power p v x * power p v y) p
-      ∙ ap (λ (z : ℕ). z % p) (sym (mul-assoc v (power p v x) (power p v y)) ∙ mul-comm (v * power p v x) (power p v y))
-      ∙ sym (mul-mod-in (power p v y) (v * power p v x) p)
-      ∙ ap (λ (z : ℕ). z % p) (mul-comm (power p v y) (v * power p v x % p))
+      ∙ ap (λ (z : ℕ). z % p) (sym (mul-assoc v (power p v x) (power p v y)))
+      ∙ mul-mod p (v * power p v x) (v * power p v x % p) (power p v y) (sym (mod-mod (v * power p v x) p))
 
   -- where a power is p - 1, the powers behind it are those from the first on, taken from p
   pub behind : (h : ℕ) → power p v h ≡ p - 1 → (x : ℕ) → power p v (x + h) ≡ p - power p v x

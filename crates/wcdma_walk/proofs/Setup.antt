@@ -18,7 +18,7 @@ use Rattle.wcdma_shape.specs.Rectangle.{Size, rows, prime, cols, cells}
 use Rattle.wcdma_shape.specs.Powers.{power, root}
 use Rattle.wcdma_setup.specs.Numbers.{qOf, allFound, searchFails}
 use Rattle.wcdma_shape.specs.Shape.{rows-pos, cols-high, prime-small}
-use Rattle.wcdma_shape.specs.Roots.{prime-root, power-pos}
+use Rattle.wcdma_shape.specs.Roots.{Root, prime-root}
 use Rattle.wcdma_shape.specs.Halves.{second-half}
 use Rattle.wcdma_shape.specs.Post.{ShapeOf}
 use Rattle.wcdma_setup.specs.Post.{NumbersOf, shortBy}
@@ -45,11 +45,10 @@ searched z s q found n = record {
   numbers = λ e x l. n .each e x (omega (arith, s .rows-is)) ∙ ap (λ (p : ℕ). qOf (p - 1) x) (s .prime-is);
 }
 
--- the powers of a root are never 0
-pub power-some : (k x : ℕ) {p v : ℕ} → p ≡ prime k → v ≡ root (prime k) → 0 < power p v x
-power-some k x e f = rw (e, f) (power-pos (prime-root k) x)
+-- what p and v of a shape are to each other
+pub shape-root : (k : ℕ) {p v : ℕ} → p ≡ prime k → v ≡ root (prime k) → Root p v
+shape-root k e f = rw (e, f) (prime-root k)
 
--- and from halfway on are those from the first on, taken from p
 pub power-second : (k x : ℕ) {p v : ℕ} → p ≡ prime k → v ≡ root (prime k) → power p v (x + (p - 1) / 2) ≡ p - power p v x
 power-second k x e f = rw (e, f) (second-half k x)
 

@@ -1,5 +1,5 @@
--- `residues::plus` is the sum modulo k: what is below k is its own remainder. A difference that is below WRAPPED has not wrapped round, since
--- the sum is below 131,072.
+-- `residues::plus` is the sum modulo k: what is below k is its own remainder. A difference below WRAPPED has not wrapped
+-- round, since k is below 65,536; any other has, since the sum is below 131,072.
 use Prim.Native.Nat.{_+_, _-_}
 use mathlib.Core.Path.{_≡_, _∙_, sym}
 use native.Mathlib.Nat.{mod-eq-of-lt, mod-eq-sub-mod}

@@ -8,9 +8,10 @@ use mathlib.Core.Path.{_∙_, _≡_, ap, refl}
 use native.Mathlib.Nat.{mod-lt}
 use native.Mathlib.Omega.{arith}
 use Rattle.laws.specs.Entries.{fill-more}
-use Rattle.wcdma_setup.proofs.Halves.{power-low, both-halves}
+use Rattle.wcdma_setup.proofs.Halves.{both-halves}
 use Rattle.wcdma_setup.proofs.Steps.{power-next}
 use Rattle.wcdma_shape.specs.Powers.{power}
+use Rattle.wcdma_shape.specs.Roots.{power-lt, power-pos}
 use Rattle.wcdma_setup.proofs.powers.Statement.{statement}
 use Rattle.wcdma_setup.proofs.powers.Tie as tie
 
@@ -28,10 +29,10 @@ cast-half c = search needs
 
 loop-holds : tie.Need-loop-holds Inv-loop μ-loop
 unfolding power
-loop-holds c = (omega arith, c .pre .long, omega (arith, c .pre .big), refl, below-none _)
+loop-holds c = (omega arith, c .pre .long, omega (arith, c .pre .root .big), refl, below-none _)
 
 sub-s : tie.Need-sub-s Inv-loop μ-loop
-sub-s c = let l = c .before .loop in omega (arith, l .inv .3, c .before .before .pre .some (l .x), c .before .before .pre .least)
+sub-s c = let l = c .before .loop in omega (arith, l .inv .3, power-pos (c .before .before .pre .root) (l .x), c .before .before .pre .least)
 
 cast-s : tie.Need-cast-s Inv-loop μ-loop
 cast-s c = let l = c .before .loop in omega (arith, l .inv .2, c .before .before .pre .small)
@@ -43,7 +44,7 @@ element-write-s : tie.Need-element-write-s Inv-loop μ-loop
 element-write-s c = omega (arith, c .loop-test .taken, c .before .before .pre .small)
 
 next-power-requires : tie.Need-next-power-requires Inv-loop μ-loop
-next-power-requires c κs = let z = c .before .before .pre in record { big = z .big; small = z .small; six = z .six; below = c .before .loop .inv .2 }
+next-power-requires c κs = let z = c .before .before .pre in record { big = z .root .big; small = z .small; six = z .root .six; below = c .before .loop .inv .2 }
 
 add-x : tie.Need-add-x Inv-loop μ-loop
 add-x c = omega (arith, c .before .loop-test .taken, c .before .before .before .pre .small)
@@ -59,17 +60,17 @@ loop-again c =
     let z = c .before .before .before .pre in (
       omega (arith, c .before .loop-test .taken),
       simp length-set (l .inv .1),
-      rw e (mod-lt _ (omega (arith, z .big))),
+      rw e (mod-lt _ (omega (arith, z .root .big))),
       e ∙ power-next _ _ (l .x) (l .last) (l .inv .3),
       fill-more (λ y. power (a .p) (a .v) y - a .less) (l .s) (l .x) (l .last - a .less)
           (omega (arith, l .inv .1, c .before .loop-test .taken, z .small)) (ap (λ (y : ℕ). y - a .less) (l .inv .3)) (l .inv .4),
     )
 
 sub-second-half : tie.Need-sub-second-half Inv-loop μ-loop
-sub-second-half c = let z = c .before .before .pre in omega (arith, z .least, z .big)
+sub-second-half c = let z = c .before .before .pre in omega (arith, z .least, z .root .big)
 
 sub-second-half-2 : tie.Need-sub-second-half-2 Inv-loop μ-loop
-sub-second-half-2 c = let z = c .before .before .pre in omega (arith, z .least, z .big)
+sub-second-half-2 c = let z = c .before .before .pre in omega (arith, z .least, z .root .big)
 
 cast-second-half : tie.Need-cast-second-half Inv-loop μ-loop
 cast-second-half c = let z = c .before .before .pre in omega (arith, z .small)
@@ -82,7 +83,7 @@ second-half-requires c κs =
       room = omega (arith, z .small);
       small = omega (arith, z .small);
       low = λ x h.
-          omega (arith, l .inv .4 x (omega (arith, c .before .loop-test .left)), power-low z x, z .least);
+          omega (arith, l .inv .4 x (omega (arith, c .before .loop-test .left)), power-lt (z .root) x, z .least);
       long = l .inv .1;
     }
 

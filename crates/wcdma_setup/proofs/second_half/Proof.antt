@@ -28,7 +28,7 @@ element-copy-out-wide16 c = search needs
 wide16-requires : tie.Need-wide16-requires Inv-loop μ-loop
 wide16-requires c κs = search needs
 
--- what is read is below top
+-- what is read is not above top
 read-low : (c : tie.After-wide16 Inv-loop μ-loop) → c .wide16 .result ≤ c .before .before .before .before .args .top
 read-low c =
     let l = c .before .before .before .loop in

@@ -1,12 +1,10 @@
 -- `walk_by` sets up, fills and exchanges.
 use borrow.Author.Needs.{needs}
-use mathlib.Core.Path.{_∙_, ap, refl}
+use mathlib.Core.Path.{refl}
 use native.Mathlib.Omega.{arith}
 use Rattle.wcdma_shape.specs.Halves.{prime-odd}
-use Rattle.wcdma_shape.specs.Powers.{isTableRoot}
-use Rattle.wcdma_shape.specs.Roots.{prime-root}
 use Rattle.wcdma_shape.specs.Shape.{prime-big, prime-small}
-use Rattle.wcdma_walk.proofs.Setup.{column-small, exchange-went, fill-in, power-second, power-some, rows-some, short-le}
+use Rattle.wcdma_walk.proofs.Setup.{column-small, exchange-went, fill-in, power-second, rows-some, shape-root, short-le}
 use Rattle.wcdma_walk.proofs.walk_by.Statement.{statement}
 use Rattle.wcdma_walk.proofs.walk_by.Tie as tie
 
@@ -20,12 +18,9 @@ powers-requires : tie.Need-powers-requires
 powers-requires c κs =
     let a = c .before .before .before .args .shape in
     let h = c .before .before .before .pre .shape in
-    let r = prime-root (a .k) in
     record {
-      big = omega (arith, prime-big (a .k), h .prime-is);
       small = omega (arith, prime-small (a .k), h .prime-is);
-      six = ap isTableRoot (h .root-is) ∙ r .six;
-      some = λ x. power-some (a .k) x (h .prime-is) (h .root-is);
+      root = shape-root (a .k) (h .prime-is) (h .root-is);
       odd = omega (arith, prime-odd (a .k), h .prime-is);
       second = λ x. power-second (a .k) x (h .prime-is) (h .root-is);
       least = short-le (a .c) (a .p) _ (c .before .short-by .ensures);
