@@ -2,10 +2,10 @@
 use mathlib.Core.Path.{_≡_, refl, sym, ap, _∙_}
 use mathlib.Core.List.{List, [], _∷_, _++_, append-assoc, append-nil}
 use Prim.Native.Nat.{ℕ, suc, _+_, _<_}
-use native.Mathlib.Nat.{not-suc-le-zero}
+use native.Mathlib.Nat.{not-suc-le-zero, add-zero}
 use native.Mathlib.Numerals.{add-one}
 use lib.ListN.{length, getD, set, drop, length-set}
-use lib.Seq.{drop-cons, set-at, drop-length}
+use lib.Seq.{drop-cons, set-at, drop-length, getD-append-add, getD-drop}
 use Rattle.laws.specs.Run.{run, length-run, run-snoc}
 
 -- new is old with its first i entries made by the rule f, from a on
@@ -36,6 +36,15 @@ module _ {A : Type 0} (f : ℕ → A) (a : ℕ) where
           ∙ fill-next i old h;
       long = length-set new i v ∙ g .long;
     }
+
+    -- what comes next is what stood there
+    pub filled-left : (new : List A) (i : ℕ) (z : A) → Filled f a old new i → getD new i z ≡ getD old i z
+    filled-left new i z g =
+        ap (λ (l : List A). getD l i z) (g .list)
+        ∙ ap (λ (k : ℕ). getD (run f a i ++ drop i old) k z) (sym (add-zero (length (run f a i)) ∙ length-run f a i))
+        ∙ getD-append-add (run f a i) (drop i old) 0 z
+        ∙ getD-drop i old 0 z
+        ∙ ap (λ (k : ℕ). getD old k z) (add-zero i)
 
     -- all of it
     pub filled-all : (new : List A) → Filled f a old new (length old) → new ≡ run f a (length old)

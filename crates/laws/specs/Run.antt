@@ -1,5 +1,5 @@
 -- Lists given by a rule: f at a, a + 1, .., n of them. Over any element.
-use mathlib.Core.Path.{_≡_, refl, sym, ap, _∙_, subst}
+use mathlib.Core.Path.{_≡_, refl, sym, ap, ap₂, _∙_, subst}
 use mathlib.Core.Logic.{⊎-elim}
 use mathlib.Core.List.{List, [], _∷_, _++_, List·Memᴰ, List·Memᴰ·head, List·Memᴰ·tail, List·Memᴰ·cases-cons, List·Memᴰ·not-nil}
 use Prim.Native.Nat.{ℕ, zero, suc, min, _+_, _-_, _≤_, _<_}
@@ -48,6 +48,21 @@ module _ {A : Type 0} where
   run-same f g a (suc n) e =
       ap (λ (x : A). x ∷ run f (suc a) n) (e a (omega arith))
       ∙ ap (λ (l : List A). g a ∷ l) (run-same f g (suc a) n (λ i h. e i (omega arith)))
+
+  -- two that agree place by place, from whatever they begin at
+  pub run-moved : (f g : ℕ → A) (a b n : ℕ) → ((i : ℕ) → i < n → f (a + i) ≡ g (b + i)) → run f a n ≡ run g b n
+  run-moved f g a b zero e = refl
+  run-moved f g a b (suc n) e =
+      ap (λ (x : A). x ∷ run f (suc a) n) (ap f (sym (add-zero a)) ∙ e 0 (omega arith) ∙ ap g (add-zero b))
+      ∙ ap (λ (l : List A). g b ∷ l) (run-moved f g (suc a) (suc b) n
+      (λ i h. ap f (suc-add a i ∙ sym (add-suc a i)) ∙ e (suc i) (omega arith) ∙ ap g (add-suc b i ∙ sym (suc-add b i))))
+
+  -- in two pieces
+  pub run-join : (f : ℕ → A) (a m n : ℕ) → run f a (m + n) ≡ run f a m ++ run f (a + m) n
+  run-join f a zero n = ap₂ (run f) (sym (add-zero a)) (zero-add n)
+  run-join f a (suc m) n =
+      ap (run f a) (suc-add m n)
+      ∙ ap (λ (l : List A). f a ∷ l) (run-join f (suc a) m n ∙ ap (λ (x : ℕ). run f (suc a) m ++ run f x n) (suc-add a m ∙ sym (add-suc a m)))
 
   -- a list by its entries
   pub run-getD : (l : List A) (z : A) → run (λ i. getD l i z) 0 (length l) ≡ l

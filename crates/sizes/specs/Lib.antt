@@ -1,3 +1,4 @@
 pub mod Size
 pub mod Profiles
+pub mod Entered
 pub mod Listed

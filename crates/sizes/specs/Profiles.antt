@@ -1,115 +1,183 @@
--- The profiles: the family, d and s of each, and what it admits, twice: document 01's table "Profiles and what each admits", counted out
--- with no remainder taken anywhere; and the same as three tests of a size. specs/Listed.antt shows that the two agree.
+-- The profiles: what each is in numbers, and what it admits, counted out with no remainder taken anywhere: document 01's table "Profiles and what
+-- each admits", and change request 4's profiles 6 and 7. Then the tests of a size, which the numbers make. specs/Listed.antt shows that the
+-- tests and the count agree. A further profile of a family stands here and in src/profiles.rt, and nowhere else.
 use mathlib.Core.Bool.{Bool, cond, _&&_}
 use mathlib.Core.List.{List, [], _∷_, _++_}
 use Prim.Native.Nat.{ℕ, _+_, _*_}
-use lib.Dec.{leb, eqb}
+use lib.Dec.{leb, ltb, eqb}
 use Rattle.laws.specs.Run.{run}
 use Rattle.laws.specs.Members.{oneOf, multiple}
 use Rattle.sizes.specs.declared.Size.{Size}
 use Rattle.sizes.specs.declared.Family.{Family}
-use Rattle.sizes.specs.declared.Family.the-variants.{Carrier, Turbo}
-use Rattle.sizes.specs.Size.{row, Profile, profile, multiples, allSizes}
+use Rattle.sizes.specs.declared.Family.the-variants.{Carrier, Spatial, Turbo}
+use Rattle.sizes.specs.declared.Bits.{Bits}
+use Rattle.sizes.specs.declared.Bits.the-variants.{Each, Even, One}
+use Rattle.sizes.specs.declared.Form.{Form}
+use Rattle.sizes.specs.declared.Form.the-variants.{Only, Doubled, Multiple, Grouped, Range}
+use Rattle.sizes.specs.declared.Numbers.{Numbers}
+use Rattle.sizes.specs.declared.Admitted.{Admitted}
+use Rattle.sizes.specs.Size.{row, Entry, numbers, admitted, multiples, allSizes}
 
--- the family of a profile: 5 (3GPP TS 25.212) is a turbo interleaver, 1 to 4 are carrier interleavers. For other profiles it is not read
-abbrev pub familyBy : ℕ → Family
-familyBy p = cond (eqb p 5) Turbo Carrier
+-- 1, IEEE 802.16 OFDM: d 12; for w in 1, 2, 4, 8, 16: bits 1: 12w; 2: 24w; 4: 48w; 6: 72w, which is 12 times bits times w
+abbrev pub ofdm : Entry
+ofdm = record {
+  number = 1;
+  family = Carrier;
+  numbers = numbers 12 0 1;
+  admitted = admitted Each Doubled 12 0;
+  rows =
+      row 1 (12 ∷ 24 ∷ 48 ∷ 96 ∷ 192 ∷ [])
+      ∷ row 2 (24 ∷ 48 ∷ 96 ∷ 192 ∷ 384 ∷ [])
+      ∷ row 4 (48 ∷ 96 ∷ 192 ∷ 384 ∷ 768 ∷ [])
+      ∷ row 6 (72 ∷ 144 ∷ 288 ∷ 576 ∷ 1152 ∷ [])
+      ∷ [];
+}
 
--- d of a carrier profile: 12 for 1 (IEEE 802.16 OFDM), 16 for 2, 3 and 4. For other profiles it is not read
-abbrev pub rowsBy : ℕ → ℕ
-rowsBy p = cond (eqb p 1) 12 16
+-- 2, IEEE 802.16 OFDMA, house limit: d 16; bits 2, 4, 6; N a positive multiple of 48·bits, at most 576
+abbrev pub ofdma : Entry
+ofdma = record {
+  number = 2;
+  family = Carrier;
+  numbers = numbers 16 0 1;
+  admitted = admitted Even Multiple 48 576;
+  rows =
+      row 2 (96 ∷ 192 ∷ 288 ∷ 384 ∷ 480 ∷ 576 ∷ [])
+      ∷ row 4 (192 ∷ 384 ∷ 576 ∷ [])
+      ∷ row 6 (288 ∷ 576 ∷ [])
+      ∷ [];
+}
 
--- s of a carrier profile: 1, 1, 2, 3 for bits 1, 2, 4, 6, which is max(N_BPSC/2, 1) of IEEE 802.11, N_BPSC being the bits per carrier
--- (`group-standard` in specs/Listed.antt). For other bits it is not read
-abbrev pub groupBy : ℕ → ℕ
-groupBy b = cond (eqb b 6) 3 (cond (eqb b 4) 2 1)
+-- 3, IEEE 802.11a: d 16; bits 1: 48; 2: 96; 4: 192; 6: 288
+abbrev pub wlan : Entry
+wlan = record {
+  number = 3;
+  family = Carrier;
+  numbers = numbers 16 0 1;
+  admitted = admitted Each Only 48 0;
+  rows = row 1 (48 ∷ []) ∷ row 2 (96 ∷ []) ∷ row 4 (192 ∷ []) ∷ row 6 (288 ∷ []) ∷ [];
+}
 
--- the table, counted out
-
--- 1, IEEE 802.16 OFDM: for w in 1, 2, 4, 8, 16: bits 1: 12w; 2: 24w; 4: 48w; 6: 72w
-abbrev pub ofdm : Profile
-ofdm = profile 1
-    (row 1 (12 ∷ 24 ∷ 48 ∷ 96 ∷ 192 ∷ [])
-    ∷ row 2 (24 ∷ 48 ∷ 96 ∷ 192 ∷ 384 ∷ [])
-    ∷ row 4 (48 ∷ 96 ∷ 192 ∷ 384 ∷ 768 ∷ [])
-    ∷ row 6 (72 ∷ 144 ∷ 288 ∷ 576 ∷ 1152 ∷ [])
-    ∷ [])
-
--- 2, IEEE 802.16 OFDMA, house limit: bits 2, 4, 6; N a positive multiple of 48·bits, at most 576
-abbrev pub ofdma : Profile
-ofdma = profile 2
-    (row 2 (96 ∷ 192 ∷ 288 ∷ 384 ∷ 480 ∷ 576 ∷ [])
-    ∷ row 4 (192 ∷ 384 ∷ 576 ∷ [])
-    ∷ row 6 (288 ∷ 576 ∷ [])
-    ∷ [])
-
--- 3, IEEE 802.11a: bits 1: 48; 2: 96; 4: 192; 6: 288
-abbrev pub wlan : Profile
-wlan = profile 3
-    (row 1 (48 ∷ [])
-    ∷ row 2 (96 ∷ [])
-    ∷ row 4 (192 ∷ [])
-    ∷ row 6 (288 ∷ [])
-    ∷ [])
-
--- 4, bench: bits 1, 2, 4, 6; N a positive multiple of 16·s, at most 1,536
-abbrev pub bench : Profile
-bench = profile 4
-    (row 1 (multiples 16 96)
-    ∷ row 2 (multiples 16 96)
-    ∷ row 4 (multiples 32 48)
-    ∷ row 6 (multiples 48 32)
-    ∷ [])
+-- 4, bench: d 16; bits 1, 2, 4, 6; N a positive multiple of 16·s, at most 1,536
+abbrev pub bench : Entry
+bench = record {
+  number = 4;
+  family = Carrier;
+  numbers = numbers 16 0 1;
+  admitted = admitted Each Grouped 16 1536;
+  rows = row 1 (multiples 16 96) ∷ row 2 (multiples 16 96) ∷ row 4 (multiples 32 48) ∷ row 6 (multiples 48 32) ∷ [];
+}
 
 -- 5, WCDMA turbo, 3GPP TS 25.212 4.2.3.2.3: bits 1; N from 40 to 5,114
 unfoldable pub turboSizes : List ℕ
 turboSizes = run (λ j. 40 + j) 0 5075
 
-abbrev pub turbo : Profile
-turbo = profile 5 (row 1 turboSizes ∷ [])
+abbrev pub turbo : Entry
+turbo = record {
+  number = 5;
+  family = Turbo;
+  numbers = numbers 0 0 1;
+  admitted = admitted One Range 40 5114;
+  rows = row 1 turboSizes ∷ [];
+}
 
--- the profiles, by family
-unfoldable pub carriers : List Profile
+-- 6, IEEE 802.11n at 20 MHz: d 13, r 11, streams 1 to 4; N = 52·bits, bits 1, 2, 4, 6
+abbrev pub ht20 : Entry
+ht20 = record {
+  number = 6;
+  family = Spatial;
+  numbers = numbers 13 11 4;
+  admitted = admitted Each Only 52 0;
+  rows = row 1 (52 ∷ []) ∷ row 2 (104 ∷ []) ∷ row 4 (208 ∷ []) ∷ row 6 (312 ∷ []) ∷ [];
+}
+
+-- 7, IEEE 802.11n at 40 MHz: d 18, r 29, streams 1 to 4; N = 108·bits, bits 1, 2, 4, 6
+abbrev pub ht40 : Entry
+ht40 = record {
+  number = 7;
+  family = Spatial;
+  numbers = numbers 18 29 4;
+  admitted = admitted Each Only 108 0;
+  rows = row 1 (108 ∷ []) ∷ row 2 (216 ∷ []) ∷ row 4 (432 ∷ []) ∷ row 6 (648 ∷ []) ∷ [];
+}
+
+-- the profiles, by family, in the order of their numbers
+abbrev pub carriers : List Entry
 carriers = ofdm ∷ ofdma ∷ wlan ∷ bench ∷ []
 
-unfoldable pub turbos : List Profile
+abbrev pub turbos : List Entry
 turbos = turbo ∷ []
 
-unfoldable pub profiles : List Profile
-profiles = carriers ++ turbos
+abbrev pub spatials : List Entry
+spatials = ht20 ∷ ht40 ∷ []
+
+abbrev pub profiles : List Entry
+profiles = carriers ++ (turbos ++ spatials)
+
+abbrev pub lastProfile : ℕ
+lastProfile = 7
+
+-- those of several streams
+abbrev pub manyStreams : List ℕ
+manyStreams = 6 ∷ 7 ∷ []
 
 -- what is listed
 unfoldable pub listedSizes : List Size
 listedSizes = allSizes profiles
 
--- the same as tests of a size
+-- the entry of a number: the last of the table whose number it reaches. (So of 0 the first and of more than the last the last; it is not read)
+abbrev pub reached : ℕ → Entry → List Entry → Entry
+reached p q [] = q
+reached p q (x ∷ xs) = cond (ltb p (x .number)) q (reached p x xs)
 
--- the profile is 1 to 5
-abbrev pub lastProfile : ℕ
-lastProfile = 5
+abbrev pub inTable : ℕ → Entry
+inTable p = reached p ofdm profiles
 
+unfoldable pub entryBy : ℕ → Entry
+entryBy p = inTable p
+
+abbrev pub familyBy : ℕ → Family
+familyBy p = entryBy p .family
+
+abbrev pub numbersBy : ℕ → Numbers
+numbersBy p = entryBy p .numbers
+
+abbrev pub admittedBy : ℕ → Admitted
+admittedBy p = entryBy p .admitted
+
+-- s of a carrier interleaver: 1, 1, 2, 3 for bits 1, 2, 4, 6, which is max(N_BPSC/2, 1) of IEEE 802.11, N_BPSC being the bits per carrier
+-- (`group-standard` in specs/Listed.antt). For other bits it is not read
+abbrev pub groupBy : ℕ → ℕ
+groupBy b = cond (eqb b 6) 3 (cond (eqb b 4) 2 1)
+
+-- the profile is listed
 unfoldable pub profileListed : Size → Bool
 profileListed z = leb 1 (z .profile) && leb (z .profile) lastProfile
 
--- the bits are listed for the profile: 2, 4, 6 for 2; else by family
-abbrev pub bitsBy : Family → List ℕ
-bitsBy Carrier = 1 ∷ 2 ∷ 4 ∷ 6 ∷ []
-bitsBy Turbo = 1 ∷ []
+-- the bits are listed for the profile
+abbrev pub bitsOf : Bits → List ℕ
+bitsOf Each = 1 ∷ 2 ∷ 4 ∷ 6 ∷ []
+bitsOf Even = 2 ∷ 4 ∷ 6 ∷ []
+bitsOf One = 1 ∷ []
+
+abbrev pub bitsIn : Admitted → ℕ → Bool
+bitsIn a b = oneOf b (bitsOf (a .bits))
 
 unfoldable pub bitsListed : Size → Bool
-bitsListed z = oneOf (z .bits) (cond (eqb (z .profile) 2) (2 ∷ 4 ∷ 6 ∷ []) (bitsBy (familyBy (z .profile))))
+bitsListed z = bitsIn (admittedBy (z .profile)) (z .bits)
 
--- N is listed for the profile and the bits. 12w, 24w, 48w, 72w for bits 1, 2, 4, 6 are 12 times bits times w
-unfoldable pub carrierListed : Size → Bool
-carrierListed z =
-    cond (eqb (z .profile) 1) (oneOf (z .n) (12 * z .bits ∷ 24 * z .bits ∷ 48 * z .bits ∷ 96 * z .bits ∷ 192 * z .bits ∷ []))
-    (cond (eqb (z .profile) 2) (multiple (48 * z .bits) 576 (z .n))
-    (cond (eqb (z .profile) 3) (eqb (z .n) (48 * z .bits))
-    (multiple (16 * groupBy (z .bits)) 1536 (z .n))))
+-- N is listed for the profile and the bits: by the form of its sizes, over its unit u and its limit m
+abbrev pub doubles : ℕ → List ℕ
+doubles u = u ∷ 2 * u ∷ 4 * u ∷ 8 * u ∷ 16 * u ∷ []
 
-abbrev pub sizeBy : Family → Size → Bool
-sizeBy Carrier z = carrierListed z
-sizeBy Turbo z = leb 40 (z .n) && leb (z .n) 5114
+abbrev pub sizeIn : Form → ℕ → ℕ → ℕ → ℕ → Bool
+sizeIn Only u m b n = eqb n (u * b)
+sizeIn Doubled u m b n = oneOf n (doubles (u * b))
+sizeIn Multiple u m b n = multiple (u * b) m n
+sizeIn Grouped u m b n = multiple (u * groupBy b) m n
+sizeIn Range u m b n = leb u n && leb n m
+
+abbrev pub sizeBy : Admitted → ℕ → ℕ → Bool
+sizeBy a b n = sizeIn (a .form) (a .unit) (a .limit) b n
 
 unfoldable pub sizeListed : Size → Bool
-sizeListed z = sizeBy (familyBy (z .profile)) z
+sizeListed z = sizeBy (admittedBy (z .profile)) (z .bits) (z .n)

@@ -1,5 +1,5 @@
--- A size is what a table lists: a profile, bits per carrier and N. A table is counted out profile by profile, each with a row for its bits
--- and the N that go with them. Over any table; specs/Profiles.antt has the one of document 01.
+-- A size is what a table lists: a profile, bits per carrier and N. A table is counted out profile by profile, an entry for each, with a row
+-- for its bits and the N that go with them. Over any table; specs/Profiles.antt has the one of document 01.
 use mathlib.Core.Path.{_≡_, refl}
 use mathlib.Core.Bool.{Bool, true, false, false≢true}
 use mathlib.Core.Logic.{_⊎_, inl, inr, ⊎-elim}
@@ -8,6 +8,11 @@ use mathlib.Core.List.{List·Memᴰ·append-cases, Memᴰ·append-left, Memᴰ·
 use Prim.Native.Nat.{ℕ, _*_}
 use Rattle.laws.specs.Run.{run}
 use Rattle.sizes.specs.declared.Size.{Size}
+use Rattle.sizes.specs.declared.Family.{Family}
+use Rattle.sizes.specs.declared.Numbers.{Numbers}
+use Rattle.sizes.specs.declared.Bits.{Bits}
+use Rattle.sizes.specs.declared.Form.{Form}
+use Rattle.sizes.specs.declared.Admitted.{Admitted}
 
 abbrev pub size : ℕ → ℕ → ℕ → Size
 size p b n = record { profile = p; bits = b; n = n }
@@ -20,13 +25,19 @@ pub record Row : Type 0 where
 abbrev pub row : ℕ → List ℕ → Row
 row b ns = record { bits = b; sizes = ns }
 
--- a profile: its number and its rows
-pub record Profile : Type 0 where
+-- an entry of a table: a profile's number, its family and the numbers of its formulas, what it admits, in numbers, and the same counted out
+pub record Entry : Type 0 where
   pub number : ℕ
+  pub family : Family
+  pub numbers : Numbers
+  pub admitted : Admitted
   pub rows : List Row
 
-abbrev pub profile : ℕ → List Row → Profile
-profile p rs = record { number = p; rows = rs }
+abbrev pub numbers : ℕ → ℕ → ℕ → Numbers
+numbers d r i = record { d = d; r = r; streams = i }
+
+abbrev pub admitted : Bits → Form → ℕ → ℕ → Admitted
+admitted b f u m = record { bits = b; form = f; unit = u; limit = m }
 
 -- u, 2u, 3u, .., m of them
 abbrev pub multiples : ℕ → ℕ → List ℕ
@@ -46,10 +57,10 @@ abbrev pub inRows : ℕ → List Row → List Size
 inRows p [] = []
 inRows p (r ∷ rs) = map (size p (r .bits)) (r .sizes) ++ inRows p rs
 
-abbrev pub sizesOf : Profile → List Size
+abbrev pub sizesOf : Entry → List Size
 sizesOf q = inRows (q .number) (q .rows)
 
-abbrev pub allSizes : List Profile → List Size
+abbrev pub allSizes : List Entry → List Size
 allSizes [] = []
 allSizes (q ∷ qs) = sizesOf q ++ allSizes qs
 
@@ -63,7 +74,7 @@ in-rows p (q ∷ rs) {r} {n} m h =
     here : r ≡ q → List·Memᴰ (size p (r .bits) n) (inRows p (q ∷ rs))
     here e = rw (← e) (Memᴰ·append-left (inRows p rs) (Memᴰ·map (size p (r .bits)) h))
 
-pub in-all : (qs : List Profile) {q : Profile} {z : Size} → List·Memᴰ q qs → List·Memᴰ z (sizesOf q) → List·Memᴰ z (allSizes qs)
+pub in-all : (qs : List Entry) {q : Entry} {z : Size} → List·Memᴰ q qs → List·Memᴰ z (sizesOf q) → List·Memᴰ z (allSizes qs)
 in-all [] m h = absurd (List·Memᴰ·not-nil m)
 in-all (p ∷ qs) {q} {z} m h = ⊎-elim here (λ l. Memᴰ·append-right (sizesOf p) (in-all qs l h)) (List·Memᴰ·cases-cons m)
   where
@@ -71,14 +82,14 @@ in-all (p ∷ qs) {q} {z} m h = ⊎-elim here (λ l. Memᴰ·append-right (sizes
     here e = rw (← e) (Memᴰ·append-left (allSizes qs) h)
 
 -- .. and back: in one of the profiles
-pub of-all : (qs : List Profile) {z : Size} → List·Memᴰ z (allSizes qs) → (q : Profile) × List·Memᴰ q qs × List·Memᴰ z (sizesOf q)
+pub of-all : (qs : List Entry) {z : Size} → List·Memᴰ z (allSizes qs) → (q : Entry) × List·Memᴰ q qs × List·Memᴰ z (sizesOf q)
 of-all [] m = absurd (List·Memᴰ·not-nil m)
 of-all (p ∷ qs) m =
     ⊎-elim (λ h. (p, List·Memᴰ·head refl, h)) (λ h. let r = of-all qs h in (r .0, List·Memᴰ·tail (r .1), r .2))
     (List·Memᴰ·append-cases (sizesOf p) m)
 
 -- in one of two tables
-pub either-all : (ps qs : List Profile) {z : Size}
+pub either-all : (ps qs : List Entry) {z : Size}
     → List·Memᴰ z (allSizes (ps ++ qs)) → List·Memᴰ z (allSizes ps) ⊎ List·Memᴰ z (allSizes qs)
 either-all ps qs m =
     let r = of-all (ps ++ qs) m in

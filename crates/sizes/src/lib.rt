@@ -1,10 +1,12 @@
-// A size: a profile, bits per carrier and N. The family, d and s of a profile, and the tests of what is listed.
+// A size: a profile, bits per carrier and N. What a profile is, s, and the tests of what is listed.
 ghost use mathlib.Core.Path.{_≡_};
 ghost use Prim.Native.Nat.{_<_};
 ghost use Rattle.laws.specs.Members.{multiple};
-ghost use Rattle.sizes.specs.Profiles.{familyBy, rowsBy, groupBy, profileListed, bitsListed, carrierListed, sizeListed};
+ghost use Rattle.sizes.specs.Profiles.{familyBy, numbersBy, admittedBy, groupBy, profileListed, bitsListed, sizeListed};
 
-// What a table of document 01 lists. Any numbers may be given.
+mod profiles; // profiles.rt: what each profile is
+
+// What a table lists. Any numbers may be given.
 pub struct Size {
     pub profile: u32,
     pub bits: u32,
@@ -14,25 +16,61 @@ pub struct Size {
 // The kinds of interleaver that profiles are of: one rule for each. (crate families: src/ has a file for each.)
 pub enum Family {
     Carrier,
+    Spatial,
     Turbo,
+}
+
+// The numbers of a profile's formulas: d, the rows of a carrier interleaver; r, how far a spatial stream is turned; and how many streams there
+// are. One that the family lacks is 0.
+pub struct Numbers {
+    pub d: u32,
+    pub r: u32,
+    pub streams: u32,
+}
+
+// How the sizes N of a profile come from its unit, its limit and the bits per carrier.
+pub enum Form {
+    Only, // unit times bits
+    Doubled, // unit times bits, times 1, 2, 4, 8, 16
+    Multiple, // the multiples of unit times bits, up to the limit
+    Grouped, // the multiples of unit times s, up to the limit
+    Range, // unit to the limit
+}
+
+// The bits per carrier of a profile.
+pub enum Bits {
+    Each, // 1, 2, 4, 6
+    Even, // 2, 4, 6
+    One, // 1
+}
+
+// What a profile admits: its bits, and the sizes N of a form. A limit that the form lacks is 0.
+pub struct Admitted {
+    pub bits: Bits,
+    pub form: Form,
+    pub unit: u32,
+    pub limit: u32,
 }
 
 // The family of a profile.
 pub fn family_by(profile: u32) -> Family
     ensures { λ r. ⌜ r ≡ familyBy profile ⌝ }
 {
-    if profile == 5 {
-        Family::Turbo
-    } else {
-        Family::Carrier
-    }
+    profiles::family(profile)
 }
 
-// d, the rows of a carrier profile.
-pub fn rows_by(profile: u32) -> u32
-    ensures { λ r. ⌜ r ≡ rowsBy profile ⌝ }
+// The numbers of a profile's formulas.
+pub fn numbers_by(profile: u32) -> Numbers
+    ensures { λ r. ⌜ r ≡ numbersBy profile ⌝ }
 {
-    if profile == 1 { 12 } else { 16 }
+    profiles::numbers(profile)
+}
+
+// What a profile admits.
+fn admitted_by(profile: u32) -> Admitted
+    ensures { λ r. ⌜ r ≡ admittedBy profile ⌝ }
+{
+    profiles::admitted(profile)
 }
 
 // s, the group that the bits per carrier give. (Its range is promised too, so that callers need not look into the table.)
@@ -54,7 +92,7 @@ pub fn profile_listed(size: Size) -> bool
     ensures { λ r. ⌜ r ≡ profileListed size ⌝ }
 {
     let p = size.profile;
-    (1 <= p) & (p <= 5)
+    (1 <= p) & (p <= profiles::LAST)
 }
 
 // The bits are listed for the profile.
@@ -62,13 +100,12 @@ pub fn bits_listed(size: Size) -> bool
     ensures { λ r. ⌜ r ≡ bitsListed size ⌝ }
 {
     let b = size.bits;
-    if size.profile == 2 {
-        return (b == 2) | ((b == 4) | (b == 6));
-    }
-    let family = family_by(size.profile);
-    match family {
-        Family::Carrier => (b == 1) | ((b == 2) | ((b == 4) | (b == 6))),
-        Family::Turbo => b == 1,
+    let a = admitted_by(size.profile);
+    let bits = a.bits;
+    match bits {
+        Bits::Each => (b == 1) | ((b == 2) | ((b == 4) | (b == 6))),
+        Bits::Even => (b == 2) | ((b == 4) | (b == 6)),
+        Bits::One => b == 1,
     }
 }
 
@@ -80,36 +117,22 @@ fn multiple_of(u: u32, m: u32, n: u32) -> bool
     (0 < n) & ((n <= m) & (n % u == 0))
 }
 
-// The size of a carrier profile. The bits are listed, so that no product wraps.
-fn carrier_listed(size: Size) -> bool
-    requires { ⌜ (0 < size .bits) × (size .bits < 7) ⌝ }
-    ensures { λ r. ⌜ r ≡ carrierListed size ⌝ }
-{
-    let p = size.profile;
-    let b = size.bits;
-    let n = size.n;
-    if p == 1 {
-        return (n == 12 * b) | ((n == 24 * b) | ((n == 48 * b) | ((n == 96 * b) | (n == 192 * b))));
-    }
-    if p == 2 {
-        return multiple_of(48 * b, 576, n);
-    }
-    if p == 3 {
-        return n == 48 * b;
-    }
-    let unit = 16 * group_by(size.bits);
-    multiple_of(unit, 1536, n)
-}
-
-// N is listed for the profile and the bits.
+// N is listed for the profile and the bits. The bits are listed, so that no product wraps.
 pub fn size_listed(size: Size) -> bool
     requires { ⌜ (0 < size .bits) × (size .bits < 7) ⌝ }
     ensures { λ r. ⌜ r ≡ sizeListed size ⌝ }
 {
+    let b = size.bits;
     let n = size.n;
-    let family = family_by(size.profile);
-    match family {
-        Family::Carrier => carrier_listed(size),
-        Family::Turbo => (40 <= n) & (n <= 5114),
+    let a = admitted_by(size.profile);
+    let u = a.unit * b;
+    let form = a.form;
+    match form {
+        Form::Only => n == u,
+        Form::Doubled => (n == u)
+            | ((n == 2 * u) | ((n == 4 * u) | ((n == 8 * u) | (n == 16 * u)))),
+        Form::Multiple => multiple_of(u, a.limit, n),
+        Form::Grouped => multiple_of(a.unit * group_by(b), a.limit, n),
+        Form::Range => (a.unit <= n) & (n <= a.limit),
     }
 }

@@ -1,0 +1,159 @@
+-- What the functions of src/profiles.rt promise, in arithmetic alone, so that a profile needs no line of proof: at each number of the table what its
+-- entry has, below the first what the first has, past the last what the last has. And that this is what the entry of the number has.
+use mathlib.Core.Path.{_≡_, refl, sym, ap, ap₂, subst, _∙_}
+use mathlib.Core.Bool.{Bool, true, false, cond}
+use mathlib.Core.Logic.{⊎-elim}
+use mathlib.Core.List.{List, [], _∷_, List·Memᴰ, List·Memᴰ·head, List·Memᴰ·tail, List·Memᴰ·cases-cons}
+use Prim.Native.Nat.{ℕ, _+_, _≤_, _<_}
+use native.Mathlib.Omega.{arith}
+use lib.Dec.{ltb, eqb}
+use borrow.Author.Tests.{eqb-true, ltb-true, ltb-false, le-ltb}
+use Rattle.laws.specs.Outcome.{apart}
+use Rattle.laws.specs.Run.{run, run-mem}
+use Rattle.laws.specs.Members.{All, every, at-each, by-member}
+use Rattle.sizes.specs.declared.Family.{Family}
+use Rattle.sizes.specs.declared.Family.the-variants.{Carrier, Spatial, Turbo}
+use Rattle.sizes.specs.declared.Bits.{Bits}
+use Rattle.sizes.specs.declared.Bits.the-variants.{Each, Even, One}
+use Rattle.sizes.specs.declared.Form.{Form}
+use Rattle.sizes.specs.declared.Form.the-variants.{Only, Doubled, Multiple, Grouped, Range}
+use Rattle.sizes.specs.declared.Numbers.{Numbers}
+use Rattle.sizes.specs.declared.Admitted.{Admitted}
+use Rattle.sizes.specs.Size.{Entry, numbers, admitted}
+use Rattle.sizes.specs.Profiles.{profiles, lastProfile, reached, inTable, entryBy, familyBy, numbersBy, admittedBy}
+
+-- families, bits and forms as numbers
+abbrev pub familyTag : Family → ℕ
+familyTag Carrier = 0
+familyTag Spatial = 1
+familyTag Turbo = 2
+
+abbrev pub bitsTag : Bits → ℕ
+bitsTag Each = 0
+bitsTag Even = 1
+bitsTag One = 2
+
+abbrev pub formTag : Form → ℕ
+formTag Only = 0
+formTag Doubled = 1
+formTag Multiple = 2
+formTag Grouped = 3
+formTag Range = 4
+
+-- the same of two entries, part by part
+abbrev pub SameNumbers : Numbers → Numbers → Type 0
+SameNumbers a b = (a .d ≡ b .d) × ((a .r ≡ b .r) × (a .streams ≡ b .streams))
+
+abbrev pub SameAdmitted : Admitted → Admitted → Type 0
+SameAdmitted a b =
+    (bitsTag (a .bits) ≡ bitsTag (b .bits))
+    × ((formTag (a .form) ≡ formTag (b .form)) × ((a .unit ≡ b .unit) × (a .limit ≡ b .limit)))
+
+-- as the table has it: at each number of an entry, below the first and past the last
+abbrev pub AsEntered : (Entry → Type 0) → ℕ → Type 0
+AsEntered Same p =
+    All (λ q. p ≡ q .number → Same q) profiles × ((p ≡ 0 → Same (inTable 0)) × (lastProfile < p → Same (inTable lastProfile)))
+
+abbrev pub FamilyEntered : ℕ → Family → Type 0
+FamilyEntered p f = AsEntered (λ q. familyTag f ≡ familyTag (q .family)) p
+
+abbrev pub NumbersEntered : ℕ → Numbers → Type 0
+NumbersEntered p x = AsEntered (λ q. SameNumbers x (q .numbers)) p
+
+abbrev pub AdmittedEntered : ℕ → Admitted → Type 0
+AdmittedEntered p a = AsEntered (λ q. SameAdmitted a (q .admitted)) p
+
+-- so it is the entry of the number that has it
+module _ (p : ℕ) where
+  -- past the number of every entry the last is reached
+  past : (m : ℕ) (q : Entry) (xs : List Entry) → All (λ x. (x .number ≤ p) × (x .number ≤ m)) xs → reached m q xs ≡ reached p q xs
+  past m q [] h = refl
+  past m q (x ∷ xs) h = rw (le-ltb p (x .number) (h .0 .0), le-ltb m (x .number) (h .0 .1)) (past m x xs (h .1))
+
+  one-of-them : (q : Entry) (xs : List Entry) → List·Memᴰ (reached p q xs) (q ∷ xs)
+  one-of-them q [] = List·Memᴰ·head refl
+  one-of-them q (x ∷ xs) = go (ltb p (x .number)) (one-of-them x xs)
+    where
+      go : (b : Bool) → List·Memᴰ (reached p x xs) (x ∷ xs) → List·Memᴰ (cond b q (reached p x xs)) (q ∷ x ∷ xs)
+      go true m = List·Memᴰ·head refl
+      go false m = List·Memᴰ·tail m
+
+-- the numbers are 1 to the last
+numbered : every (λ p. eqb p (inTable p .number)) (run (λ j. j) 1 lastProfile) ≡ true
+numbered = refl
+
+pub own-number : (p : ℕ) → 1 ≤ p → p ≤ lastProfile → p ≡ entryBy p .number
+unfolding entryBy
+own-number p lo hi =
+    eqb-true p _ (at-each (λ p. eqb p (inTable p .number)) (run (λ j. j) 1 lastProfile) numbered (run-mem (λ j. j) 1 lastProfile p lo (omega arith)))
+
+pub in-profiles : (p : ℕ) → List·Memᴰ (entryBy p) profiles
+unfolding entryBy
+in-profiles p = ⊎-elim (λ e. List·Memᴰ·head e) (λ m. m) (List·Memᴰ·cases-cons (one-of-them p _ profiles))
+
+-- what holds of the entries by their numbers holds of the entry of every number
+pub entered-is : (Same : Entry → Type 0) (p : ℕ) → AsEntered Same p → Same (entryBy p)
+unfolding entryBy
+entered-is Same p h = go (ltb 0 p) refl (ltb lastProfile p) refl
+  where
+    go : (a : Bool) → ltb 0 p ≡ a → (b : Bool) → ltb lastProfile p ≡ b → Same (entryBy p)
+    go false e b o = let z : p ≡ 0 = omega (arith, ltb-false 0 p e) in subst (λ (x : ℕ). Same (inTable x)) (sym z) (h .1 .0 z)
+    go true e true o =
+        let l = ltb-true lastProfile p o in
+        subst Same (past p lastProfile _ profiles (omega arith)) (h .1 .1 l)
+    go true e false o =
+        by-member (λ q. p ≡ q .number → Same q) profiles (h .0) (in-profiles p)
+        (own-number p (ltb-true 0 p e) (ltb-false lastProfile p o))
+
+-- what the tags say, read back
+pub families-apart : (f g : Family) → familyTag f ≡ familyTag g → f ≡ g
+families-apart = apart familyTag read same
+  where
+    read : ℕ → Family
+    read t = cond (eqb t 0) Carrier (cond (eqb t 1) Spatial Turbo)
+
+    same : (f : Family) → read (familyTag f) ≡ f
+    same Carrier = refl
+    same Spatial = refl
+    same Turbo = refl
+
+bits-apart : (f g : Bits) → bitsTag f ≡ bitsTag g → f ≡ g
+bits-apart = apart bitsTag read same
+  where
+    read : ℕ → Bits
+    read t = cond (eqb t 0) Each (cond (eqb t 1) Even One)
+
+    same : (f : Bits) → read (bitsTag f) ≡ f
+    same Each = refl
+    same Even = refl
+    same One = refl
+
+forms-apart : (f g : Form) → formTag f ≡ formTag g → f ≡ g
+forms-apart = apart formTag read same
+  where
+    read : ℕ → Form
+    read t = cond (eqb t 0) Only (cond (eqb t 1) Doubled (cond (eqb t 2) Multiple (cond (eqb t 3) Grouped Range)))
+
+    same : (f : Form) → read (formTag f) ≡ f
+    same Only = refl
+    same Doubled = refl
+    same Multiple = refl
+    same Grouped = refl
+    same Range = refl
+
+pub family-entered : (p : ℕ) (f : Family) → FamilyEntered p f → f ≡ familyBy p
+family-entered p f h = families-apart f _ (entered-is (λ q. familyTag f ≡ familyTag (q .family)) p h)
+
+pub numbers-entered : (p : ℕ) (x : Numbers) → NumbersEntered p x → x ≡ numbersBy p
+numbers-entered p x h =
+    let e = entered-is (λ q. SameNumbers x (q .numbers)) p h in
+    ap (λ (d : ℕ). numbers d (x .r) (x .streams)) (e .0)
+    ∙ ap₂ (λ (r i : ℕ). numbers (numbersBy p .d) r i) (e .1 .0) (e .1 .1)
+
+pub admitted-entered : (p : ℕ) (a : Admitted) → AdmittedEntered p a → a ≡ admittedBy p
+admitted-entered p a h =
+    let e = entered-is (λ q. SameAdmitted a (q .admitted)) p h in
+    let b = admittedBy p in
+    ap (λ (x : Bits). admitted x (a .form) (a .unit) (a .limit)) (bits-apart (a .bits) (b .bits) (e .0))
+    ∙ ap (λ (f : Form). admitted (b .bits) f (a .unit) (a .limit)) (forms-apart (a .form) (b .form) (e .1 .0))
+    ∙ ap₂ (λ (u m : ℕ). admitted (b .bits) (b .form) u m) (e .1 .1 .0) (e .1 .1 .1)
