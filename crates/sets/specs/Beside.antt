@@ -1,4 +1,4 @@
--- What a set must have beside a listed size: nothing. Its lines and their sentences; a line may rest on the size being listed.
+-- What a set must have beside a listed size and stream: nothing. Its lines and their sentences; a line may rest on the size being listed.
 use mathlib.Core.List.{List, [], List·Memᴰ}
 use Rattle.laws.specs.Outcome.{Line}
 use Rattle.laws.specs.Sentences.{Sentence, Told, none}

@@ -1,61 +1,61 @@
--- What an accepted set is. Of a carrier profile: a block that the carrier laws hold for, N a positive multiple of d and N/d a multiple of
--- s, computed over the 307 carrier sizes of the table. Of the turbo family: a size from 40 to 5,114.
+-- What an accepted set is. Of a carrier or a spatial profile: a block that the carrier laws hold for, N a positive multiple of d and N/d a
+-- multiple of s, and above 3·r·bits, which is the most that a stream is turned by; computed over the 315 such sizes of the table. Of the turbo
+-- family: a size from 40 to 5,114.
 use mathlib.Core.Path.{_≡_, refl, sym, ap, _∙_}
-use mathlib.Core.Bool.{Bool, true, false, cond, _&&_, false≢true}
-use mathlib.Core.Logic.{_≢_, ⊎-elim}
-use mathlib.Core.List.{List·Memᴰ, append-nil, Memᴰ·of-map}
-use Prim.Native.Nat.{ℕ, _*_, _/_, _%_, _≤_}
+use mathlib.Core.Bool.{Bool, true, false, not, _&&_, true≢false, false≢true}
+use mathlib.Core.Logic.{⊎-elim}
+use mathlib.Core.List.{_++_, List·Memᴰ, append-nil, Memᴰ·of-map}
+use Prim.Native.Nat.{ℕ, _*_, _/_, _%_, _≤_, _<_}
 use native.Mathlib.Nat.{div-add-mod}
 use native.Mathlib.Omega.{arith}
 use lib.Dec.{leb, ltb, eqb}
-use borrow.Author.Tests.{leb-true, ltb-true, eqb-true, eq-eqb, ne-eqb}
+use borrow.Author.Tests.{leb-true, ltb-true, eqb-true}
 use Rattle.laws.specs.Outcome.{done}
 use Rattle.laws.specs.Members.{both, every, at-each}
 use Rattle.laws.specs.Sized.{Sized}
 use Rattle.sets.specs.declared.Set.{Set}
 use Rattle.sizes.specs.declared.Family.{Family}
-use Rattle.sizes.specs.declared.Family.the-variants.{Carrier, Turbo}
+use Rattle.sizes.specs.declared.Family.the-variants.{Carrier, Spatial, Turbo}
 use Rattle.sizes.specs.declared.Size.{Size}
 use Rattle.sizes.specs.Size.{size, allSizes, either-all}
-use Rattle.sets.specs.Set.{sizeOf, familyOf, rowsOf, groupOf}
-use Rattle.sizes.specs.Profiles.{familyBy, rowsBy, groupBy}
-use Rattle.sizes.specs.Profiles.{turboSizes, carriers, turbos, profiles, listedSizes}
+use Rattle.sets.specs.Set.{sizeOf, familyOf, isTurbo, numbersOf, rowsOf, rotationOf, groupOf}
+use Rattle.sets.specs.Stream.{stream-true}
+use Rattle.sizes.specs.Entered.{familyTag, families-apart, entered-is}
+use Rattle.sizes.specs.Profiles.{familyBy, numbersBy, groupBy, entryBy}
+use Rattle.sizes.specs.Profiles.{turboSizes, carriers, turbos, spatials, listedSizes}
 use Rattle.sizes.specs.Listed.{turbo-range}
 use Rattle.sets.specs.Verdict.{verdictOf}
-use Rattle.sets.specs.Admits.{accepted-listed}
+use Rattle.sets.specs.Admits.{accepted-listed, listed-range, accepted-stream}
 
 pub record Carried (s : Set) : Type 0 where
   pub sized : Sized (rowsOf s) (s .n) (groupOf s)
   pub small : s .n ≤ 1536
-
-isCarrier : Family → Bool
-isCarrier Carrier = true
-isCarrier Turbo = false
+  pub below : 3 * (rotationOf s * s .bits) < s .n
 
 -- the same of a size, as a test
 divides : Size → Bool
 divides z =
-    ltb 0 (rowsBy (z .profile))
-    && (ltb 0 (groupBy (z .bits)) && (ltb 0 (z .n) && (eqb (z .n % (rowsBy (z .profile) * groupBy (z .bits))) 0 && leb (z .n) 1536)))
+    let d = numbersBy (z .profile) .d in
+    let g = groupBy (z .bits) in
+    ltb 0 d
+    && (ltb 0 g && (ltb 0 (z .n) && (eqb (z .n % (d * g)) 0 && (leb (z .n) 1536 && ltb (3 * (numbersBy (z .profile) .r * z .bits)) (z .n)))))
 
-all-divide : every divides (allSizes carriers) ≡ true
-unfolding divides carriers
-all-divide = refl
+carriers-divide : every divides (allSizes carriers) ≡ true
+unfolding divides entryBy
+carriers-divide = refl
 
-ofCarrier : Size → Bool
-ofCarrier z = isCarrier (familyBy (z .profile))
-
-all-carriers : every ofCarrier (allSizes carriers) ≡ true
-unfolding isCarrier ofCarrier carriers
-all-carriers = refl
+spatials-divide : every divides (allSizes spatials) ≡ true
+unfolding divides entryBy
+spatials-divide = refl
 
 carried-by : (s : Set) → divides (sizeOf s) ≡ true → Carried s
-unfolding divides rowsOf groupOf
+unfolding divides numbersOf groupOf
 carried-by s e =
     let p = both (ltb 0 (rowsOf s)) _ e in
     let q = both (ltb 0 (groupOf s)) _ (p .1) in
     let r = both (ltb 0 (s .n)) _ (q .1) in
     let t = both (eqb (s .n % (rowsOf s * groupOf s)) 0) _ (r .1) in
+    let u = both (leb (s .n) 1536) _ (t .1) in
     record {
       sized = record {
         d-pos = ltb-true 0 (rowsOf s) (p .0);
@@ -64,53 +64,89 @@ carried-by s e =
         groups = s .n / (rowsOf s * groupOf s);
         whole = omega (arith, div-add-mod (s .n) (rowsOf s * groupOf s), eqb-true (s .n % (rowsOf s * groupOf s)) 0 (t .0));
       };
-      small = leb-true (s .n) 1536 (t .1);
+      small = leb-true (s .n) 1536 (u .0);
+      below = ltb-true _ (s .n) (u .1);
     }
 
--- profile 5 is the turbo family, and no other profile is
+-- the family by the profile's number: 1 to 4, 5, 6 and 7
+pub carrier-profile : (s : Set) → s .profile < 5 → familyOf s ≡ Carrier
+unfolding familyOf
+carrier-profile s h =
+    families-apart _ _ (entered-is (λ q. s .profile < 5 → familyTag (q .family) ≡ 0) (s .profile) (omega arith) h)
+
 pub five-turbo : (s : Set) → s .profile ≡ 5 → familyOf s ≡ Turbo
 unfolding familyOf
-five-turbo s e = simp (eq-eqb (s .profile) 5 e)
+five-turbo s e = families-apart _ _ (entered-is (λ q. s .profile ≡ 5 → familyTag (q .family) ≡ 2) (s .profile) (omega arith) e)
 
-pub other-carrier : (s : Set) → s .profile ≢ 5 → familyOf s ≡ Carrier
+pub spatial-profile : (s : Set) → 5 < s .profile → familyOf s ≡ Spatial
 unfolding familyOf
-other-carrier s e = simp (ne-eqb (s .profile) 5 e)
+spatial-profile s h =
+    families-apart _ _ (entered-is (λ q. 5 < s .profile → familyTag (q .family) ≡ 1) (s .profile) (omega arith) h)
 
+-- d and r of 6 and of 7
+pub numbers-ht20 : (s : Set) → s .profile ≡ 6 → (rowsOf s ≡ 13) × (rotationOf s ≡ 11)
+unfolding numbersOf
+numbers-ht20 s e = entered-is (λ q. s .profile ≡ 6 → (q .numbers .d ≡ 13) × (q .numbers .r ≡ 11)) (s .profile) (omega arith) e
+
+pub numbers-ht40 : (s : Set) → s .profile ≡ 7 → (rowsOf s ≡ 18) × (rotationOf s ≡ 29)
+unfolding numbersOf
+numbers-ht40 s e = entered-is (λ q. s .profile ≡ 7 → (q .numbers .d ≡ 18) × (q .numbers .r ≡ 29)) (s .profile) (omega arith) e
+
+-- and no other profile is the turbo family
 pub turbo-five : (s : Set) → familyOf s ≡ Turbo → s .profile ≡ 5
 unfolding familyOf
-turbo-five s e = go (eqb (s .profile) 5) refl e
-  where
-    go : (b : Bool) → eqb (s .profile) 5 ≡ b → cond b Turbo Carrier ≡ Turbo → s .profile ≡ 5
-    go true q e = eqb-true (s .profile) 5 q
-    go false q e = let z : _≡_ {A = ℕ} 0 1 = cc in absurd (omega arith)
+turbo-five s e = entered-is (λ q. familyTag (q .family) ≡ 2 → s .profile ≡ 5) (s .profile) (omega arith) (ap familyTag e)
 
 -- a turbo size
 turbo-one : {z : Size} → List·Memᴰ z (allSizes turbos) → (z .profile ≡ 5) × ((40 ≤ z .n) × (z .n ≤ 5114))
-unfolding turbos
 turbo-one {z} m =
     let q = Memᴰ·of-map (size 5 1) turboSizes (simp append-nil at m) in
     let same : z .n ≡ q .0 = sym (ap (λ (x : Size). x .n) (q .2)) in
     let r = turbo-range (q .1) in
     (sym (ap (λ (x : Size). x .profile) (q .2)), (omega (arith, r .0), omega (arith, r .1)))
 
+notTurbo : Size → Bool
+notTurbo z = not (isTurbo (familyBy (z .profile)))
+
+carriers-other : every notTurbo (allSizes carriers) ≡ true
+unfolding notTurbo entryBy
+carriers-other = refl
+
+spatials-other : every notTurbo (allSizes spatials) ≡ true
+unfolding notTurbo entryBy
+spatials-other = refl
+
 module _ (s : Set) (e : verdictOf s ≡ done tt) where
-  pub carried : familyOf s ≡ Carrier → Carried s
-  unfolding listedSizes profiles isCarrier
+  pub carried : isTurbo (familyOf s) ≡ false → Carried s
+  unfolding listedSizes
   carried c =
-      ⊎-elim (λ m. carried-by s (at-each divides (allSizes carriers) all-divide m))
-      (λ m. absurd (false≢true (ap isCarrier (sym (five-turbo s (turbo-one m .0)) ∙ c))))
-      (either-all carriers turbos (accepted-listed s e))
+      ⊎-elim (λ m. carried-by s (at-each divides (allSizes carriers) carriers-divide m))
+      (λ m. ⊎-elim (λ m. absurd (true≢false (sym (ap isTurbo (five-turbo s (turbo-one m .0))) ∙ c)))
+      (λ m. carried-by s (at-each divides (allSizes spatials) spatials-divide m)) (either-all turbos spatials m))
+      (either-all carriers (turbos ++ spatials) (accepted-listed s e))
 
   pub turbo-size : familyOf s ≡ Turbo → (40 ≤ s .n) × (s .n ≤ 5114)
-  unfolding listedSizes profiles isCarrier ofCarrier familyOf
+  unfolding listedSizes familyOf notTurbo
   turbo-size t =
-      ⊎-elim (λ m. absurd (false≢true (sym (ap isCarrier t) ∙ at-each ofCarrier (allSizes carriers) all-carriers m)))
-      (λ m. turbo-one m .1) (either-all carriers turbos (accepted-listed s e))
+      ⊎-elim (λ m. absurd (other (at-each notTurbo (allSizes carriers) carriers-other m)))
+      (λ m. ⊎-elim (λ m. turbo-one m .1) (λ m. absurd (other (at-each notTurbo (allSizes spatials) spatials-other m))) (either-all turbos spatials m))
+      (either-all carriers (turbos ++ spatials) (accepted-listed s e))
+    where
+      other : notTurbo (sizeOf s) ≡ true → ⊥
+      other o = false≢true (sym (ap (λ (f : Family). not (isTurbo f)) t) ∙ o)
+
+  -- the stream is 1 to 4
+  pub stream-in : (1 ≤ s .stream) × (s .stream ≤ 4)
+  stream-in =
+      let r = listed-range (sizeOf s) (accepted-listed s e) in
+      let q = stream-true s (r .0) (r .1) (accepted-stream s e) in
+      (q .0, q .1 .0)
 
 -- no listed size is above 6,144
 pub sizes-small : (s : Set) → verdictOf s ≡ done tt → s .n ≤ 6144
 sizes-small s e = go (familyOf s) refl
   where
     go : (f : Family) → familyOf s ≡ f → s .n ≤ 6144
-    go Carrier q = omega (arith, carried s e q .small)
+    go Carrier q = omega (arith, carried s e (ap isTurbo q) .small)
+    go Spatial q = omega (arith, carried s e (ap isTurbo q) .small)
     go Turbo q = omega (arith, turbo-size s e q .1)

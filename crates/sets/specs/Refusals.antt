@@ -1,5 +1,5 @@
--- The refusals of a set in the sentences of document 01, in its order: 1, 2, 3, and what a set must have beside its size; and that a number
--- is said exactly when its sentence is the first that holds. Lines of other calls may stand behind.
+-- The refusals of a set in the sentences of document 01, in its order: 1, 2, 3, 16, and what a set must have beside its size and stream; and that a
+-- number is said exactly when its sentence is the first that holds. Lines of other calls may stand behind.
 use Prim.Native.Nat.{ℕ, _≤_}
 use mathlib.Core.Bool.{true}
 use mathlib.Core.List.{List, [], _∷_, _++_, List·Memᴰ}
@@ -17,11 +17,12 @@ use Rattle.sizes.specs.declared.Size.{Size}
 use Rattle.sizes.specs.Size.{size}
 use Rattle.sets.specs.Set.{sizeOf}
 use Rattle.sizes.specs.Profiles.{listedSizes, lastProfile, profileListed, bitsListed}
+use Rattle.sets.specs.Stream.{streamSentences, stream-told}
 use Rattle.sets.specs.Beside.{besideSentences, beside-told}
 use Rattle.sets.specs.Verdict.{sizeLines, setLines, refusal, verdictOf, refusal-number}
-use Rattle.sets.specs.Admits.{some-listed, listed-passing, passing-listed, clear-listed}
+use Rattle.sets.specs.Admits.{profile-range, some-listed, listed-passing, passing-listed, clear-listed, listed-range}
 
--- the profile is 1 to 5
+-- the profile is 1 to 7
 abbrev pub ProfileListed : Size → Type 0
 ProfileListed z = (1 ≤ z .profile) × (z .profile ≤ lastProfile)
 
@@ -33,20 +34,14 @@ BitsListed z = (n : ℕ) × List·Memᴰ (size (z .profile) (z .bits) n) listedS
 abbrev pub SizeListed : Size → Type 0
 SizeListed z = List·Memᴰ z listedSizes
 
--- 1: the profile isn't 1 to 5; 2: the bits aren't listed for the profile; 3: N isn't listed for that profile and those bits
+-- 1: the profile isn't 1 to 7; 2: the bits aren't listed for the profile; 3: N isn't listed for that profile and those bits
 abbrev pub sizeSentences : Size → List Sentence
 sizeSentences z = sentence 1 (ProfileListed z → ⊥) ∷ sentence 2 (BitsListed z → ⊥) ∷ sentence 3 (SizeListed z → ⊥) ∷ []
 
 abbrev pub setSentences : Set → List Sentence
-setSentences s = sizeSentences (sizeOf s) ++ besideSentences s
+setSentences s = sizeSentences (sizeOf s) ++ (streamSentences s ++ besideSentences s)
 
 -- the tests and the sentences
-profile-true : (z : Size) → profileListed z ≡ true → ProfileListed z
-unfolding profileListed
-profile-true z e =
-    let q = both (leb 1 (z .profile)) (leb (z .profile) lastProfile) e in
-    (leb-true 1 (z .profile) (q .0), leb-true (z .profile) lastProfile (q .1))
-
 true-profile : (z : Size) → ProfileListed z → profileListed z ≡ true
 unfolding profileListed
 true-profile z h = simp (le-leb 1 (z .profile) (h .0), le-leb (z .profile) lastProfile (h .1))
@@ -57,7 +52,7 @@ true-bits z h = listed-passing (size (z .profile) (z .bits) (h .0)) (h .1) .bits
 
 pub size-told : {C : Type 0} (z : Size) → Told C (sizeLines z) (sizeSentences z)
 size-told {C} z =
-    told-unless 1 (λ c. profile-true z) (λ c. true-profile z)
+    told-unless 1 (λ c. profile-range z) (λ c. true-profile z)
     (told-unless 2 (λ (c : C × (profileListed z ≡ true)). some-listed z (c .1)) (λ c. true-bits z)
     (told-unless 3 (λ (c : (C × (profileListed z ≡ true)) × (bitsListed z ≡ true)). passing-listed z (c .0 .1) (c .1))
     (λ c h. listed-passing z h .size-passes) none))
@@ -65,7 +60,10 @@ size-told {C} z =
 -- the lines of a set
 pub set-told : {C : Type 0} (s : Set) → Told C (setLines s) (setSentences s)
 unfolding setLines
-set-told s = told-join (size-told (sizeOf s)) (told-under (λ c. clear-listed (sizeOf s) (c .1)) (beside-told s))
+set-told s =
+    told-join (size-told (sizeOf s))
+    (told-join (told-under (λ c. listed-range (sizeOf s) (clear-listed (sizeOf s) (c .1))) (stream-told s))
+    (told-under (λ c. clear-listed (sizeOf s) (c .0 .1)) (beside-told s)))
 
 -- different numbers make different refusals
 pub refusals-apart : (s : Set) (j k : ℕ) → refusal s j ≡ refusal s k → j ≡ k

@@ -1,9 +1,12 @@
--- The size of a set, its family, d and s. Rests on Profiles of crate sizes. These are definitions.
+-- The size of a set, its family, the numbers of its formulas, and s. Rests on Profiles of crate sizes. These are definitions.
 use Prim.Native.Nat.{ℕ}
+use mathlib.Core.Bool.{Bool, true, false}
 use Rattle.sizes.specs.declared.Size.{Size}
 use Rattle.sizes.specs.declared.Family.{Family}
+use Rattle.sizes.specs.declared.Family.the-variants.{Carrier, Spatial, Turbo}
+use Rattle.sizes.specs.declared.Numbers.{Numbers}
 use Rattle.sizes.specs.Size.{size}
-use Rattle.sizes.specs.Profiles.{familyBy, rowsBy, groupBy}
+use Rattle.sizes.specs.Profiles.{familyBy, numbersBy, groupBy}
 use Rattle.sets.specs.declared.Set.{Set}
 
 abbrev pub sizeOf : Set → Size
@@ -12,9 +15,26 @@ sizeOf s = size (s .profile) (s .bits) (s .n)
 unfoldable pub familyOf : Set → Family
 familyOf s = familyBy (s .profile)
 
--- d
-unfoldable pub rowsOf : Set → ℕ
-rowsOf s = rowsBy (s .profile)
+-- it is the turbo interleaver's; it is that of spatial streams
+abbrev pub isTurbo : Family → Bool
+isTurbo Carrier = false
+isTurbo Spatial = false
+isTurbo Turbo = true
+
+abbrev pub isSpatial : Family → Bool
+isSpatial Carrier = false
+isSpatial Spatial = true
+isSpatial Turbo = false
+
+-- d, r, and how many streams there are
+unfoldable pub numbersOf : Set → Numbers
+numbersOf s = numbersBy (s .profile)
+
+abbrev pub rowsOf : Set → ℕ
+rowsOf s = numbersOf s .d
+
+abbrev pub rotationOf : Set → ℕ
+rotationOf s = numbersOf s .r
 
 -- s
 unfoldable pub groupOf : Set → ℕ

@@ -1,4 +1,5 @@
--- The test of a set: refusals 1, 2 and 3 of document 01, which are of its size, and then what it must have beside it (specs/Beside.antt).
+-- The test of a set: refusals 1, 2 and 3 of document 01, which are of its size, 16, which is of its stream (specs/Stream.antt), and then what it
+-- must have beside them (specs/Beside.antt).
 use Prim.Native.Nat.{ℕ}
 use mathlib.Core.Bool.{not}
 use mathlib.Core.List.{List, [], _∷_, _++_}
@@ -11,9 +12,10 @@ use Rattle.sets.specs.declared.Verdict.the-variants.{Accepted, Refused}
 use Rattle.sizes.specs.declared.Size.{Size}
 use Rattle.sets.specs.Set.{sizeOf}
 use Rattle.sizes.specs.Profiles.{profileListed, bitsListed, sizeListed}
+use Rattle.sets.specs.Stream.{streamLines}
 use Rattle.sets.specs.Beside.{besideLines}
 
--- 1: the profile isn't 1 to 5. 2: the bits aren't listed for the profile. 3: N isn't listed for that profile and those bits
+-- 1: the profile isn't 1 to 7. 2: the bits aren't listed for the profile. 3: N isn't listed for that profile and those bits
 abbrev pub sizeLines : Size → List Line
 sizeLines z =
     line 1 (not (profileListed z))
@@ -22,7 +24,7 @@ sizeLines z =
     ∷ []
 
 unfoldable pub setLines : Set → List Line
-setLines s = sizeLines (sizeOf s) ++ besideLines s
+setLines s = sizeLines (sizeOf s) ++ (streamLines s ++ besideLines s)
 
 -- what a refusal of a set carries: its number alone. It is given the set, so that more can be said of it in one place
 unfoldable pub refusal : Set → ℕ → Refusal

@@ -1,16 +1,19 @@
 // A parameter set, the test of one, and what a refusal carries.
 ghost use mathlib.Core.Path.{_≡_};
 ghost use Prim.Native.Nat.{_<_};
-ghost use Rattle.sets.specs.Set.{familyOf, rowsOf, groupOf};
+ghost use Rattle.sets.specs.Set.{familyOf, isTurbo, isSpatial, numbersOf, groupOf};
+ghost use Rattle.sets.specs.Stream.{streamListed};
 ghost use Rattle.sets.specs.Verdict.{refusal, sayVerdict, verdictOf};
 use sizes::Family;
+use sizes::Numbers;
 use sizes::Size;
 
-// A profile of document 01, bits per carrier, and the block's size N. Any numbers may be given.
+// A profile, bits per carrier, the block's size N, and the spatial stream, which is 1 for a profile of one stream. Any numbers may be given.
 pub struct Set {
     pub profile: u32,
     pub bits: u32,
     pub n: u32,
+    pub stream: u32,
 }
 
 // What a refused call gives back: the number of document 01.
@@ -31,11 +34,35 @@ pub fn family_of(set: Set) -> Family
     sizes::family_by(set.profile)
 }
 
-// d, the rows of a carrier profile.
-pub fn rows_of(set: Set) -> u32
-    ensures { λ r. ⌜ r ≡ rowsOf set ⌝ }
+// Whether the family is the turbo interleaver's, and whether it is that of spatial streams. (Two questions of two answers each, since the compiler
+// makes one comparison of each, and of a match on three families a table.)
+pub fn is_turbo(set: Set) -> bool
+    ensures { λ r. ⌜ r ≡ isTurbo (familyOf set) ⌝ }
 {
-    sizes::rows_by(set.profile)
+    let family = family_of(set);
+    match family {
+        Family::Carrier => false,
+        Family::Spatial => false,
+        Family::Turbo => true,
+    }
+}
+
+pub fn is_spatial(set: Set) -> bool
+    ensures { λ r. ⌜ r ≡ isSpatial (familyOf set) ⌝ }
+{
+    let family = family_of(set);
+    match family {
+        Family::Carrier => false,
+        Family::Spatial => true,
+        Family::Turbo => false,
+    }
+}
+
+// The numbers of its formulas: d, r, and how many streams there are.
+pub fn numbers_of(set: Set) -> Numbers
+    ensures { λ r. ⌜ r ≡ numbersOf set ⌝ }
+{
+    sizes::numbers_by(set.profile)
 }
 
 // s, the group that the bits per carrier give, and its range.
@@ -53,7 +80,18 @@ pub fn refusal_of(set: Set, number: u32) -> Refusal
     Refusal { number }
 }
 
-// The test of a parameter set: 1, 2, 3, in that order, and nothing more. (`verdicts-apart` in specs/Verdict.antt: what is said leaves one
+// The stream is listed for the profile. Every profile has stream 1.
+fn stream_listed(set: Set) -> bool
+    ensures { λ r. ⌜ r ≡ streamListed set ⌝ }
+{
+    if set.stream == 1 {
+        return true;
+    }
+    let numbers = numbers_of(set);
+    (1 <= set.stream) & (set.stream <= numbers.streams)
+}
+
+// The test of a parameter set: 1, 2, 3, 16, in that order, and nothing more. (`verdicts-apart` in specs/Verdict.antt: what is said leaves one
 // answer.)
 pub fn test(set: Set) -> Verdict
     ensures { λ r. ⌜ sayVerdict r ≡ verdictOf set ⌝ }
@@ -71,6 +109,9 @@ pub fn test(set: Set) -> Verdict
     }
     if !sizes::size_listed(size) {
         return Verdict::Refused(refusal_of(set, 3));
+    }
+    if !stream_listed(set) {
+        return Verdict::Refused(refusal_of(set, 16));
     }
     Verdict::Accepted
 }

@@ -57,13 +57,33 @@ returns-3 c =
       fails (c .before .before .size-listed .ensures) (c .before .if3 .taken),
     )
 
+stream-listed-requires : tie.Need-stream-listed-requires
+stream-listed-requires c κs = search needs
+
+refusal-of-requires-4 : tie.Need-refusal-of-requires-4
+refusal-of-requires-4 c κs = search needs
+
 returns-4 : tie.Need-returns-4
 unfolding verdictOf setLines
 returns-4 c =
+    let e = c .before .before .before in
+    ap refused (c .refusal-of4 .ensures)
+    ∙ simp (
+      passes (e .before .before .before .before .before .profile-listed .ensures) (e .before .before .before .before .if1 .left),
+      passes (e .before .before .before .bits-listed .ensures) (e .before .before .if2 .left),
+      passes (e .before .size-listed .ensures) (e .if3 .left),
+      fails (c .before .before .stream-listed .ensures) (c .before .if4 .taken),
+    )
+
+returns-5 : tie.Need-returns-5
+unfolding verdictOf setLines
+returns-5 c =
+    let e = c .before .before in
     simp (
-      passes (c .before .before .before .before .before .profile-listed .ensures) (c .before .before .before .before .if1 .left),
-      passes (c .before .before .before .bits-listed .ensures) (c .before .before .if2 .left),
-      passes (c .before .size-listed .ensures) (c .if3 .left),
+      passes (e .before .before .before .before .before .profile-listed .ensures) (e .before .before .before .before .if1 .left),
+      passes (e .before .before .before .bits-listed .ensures) (e .before .before .if2 .left),
+      passes (e .before .size-listed .ensures) (e .if3 .left),
+      passes (c .before .stream-listed .ensures) (c .if4 .left),
     )
 
 pub test-spec : {M : Type 1} → statement M
@@ -79,4 +99,7 @@ test-spec =
     size-listed-requires
     refusal-of-requires-3
     returns-3
-    returns-4)
+    stream-listed-requires
+    refusal-of-requires-4
+    returns-4
+    returns-5)
