@@ -112,7 +112,7 @@ fn down(
 }
 
 // M(k), for k below N.
-fn address(d: usize, n: usize, s: usize, k: usize) -> usize
+pub fn address(d: usize, n: usize, s: usize, k: usize) -> usize
     requires { ⌜ Block d n s k ⌝ }
     requires { ⌜ k < n ⌝ }
     ensures { λ r. ⌜ r ≡ carrierM d n s k ⌝ }
@@ -124,7 +124,7 @@ fn address(d: usize, n: usize, s: usize, k: usize) -> usize
 }
 
 // Writes M from a cell on, as far as there is room and cells; gives back how many.
-fn write(d: usize, n: usize, s: usize, cell: usize, out: &mut [u16]) -> usize
+pub fn write(d: usize, n: usize, s: usize, cell: usize, out: &mut [u16]) -> usize
     requires { ⌜ Block d n s cell ⌝ }
     ensures { λ r. ⌜ Ran (carrierM d n s) n cell (now (out .entry)) (now (out .exit)) r ⌝ }
 {

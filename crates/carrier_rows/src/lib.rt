@@ -146,7 +146,7 @@ fn along(
 }
 
 // L(t), for t below N.
-fn address(d: usize, n: usize, s: usize, t: usize) -> usize
+pub fn address(d: usize, n: usize, s: usize, t: usize) -> usize
     requires { ⌜ Block d n s t ⌝ }
     requires { ⌜ t < n ⌝ }
     ensures { λ r. ⌜ r ≡ carrierL d n s t ⌝ }
@@ -157,37 +157,44 @@ fn address(d: usize, n: usize, s: usize, t: usize) -> usize
     RowSpot::new(d, s, row, col).address()
 }
 
-// Writes L from a cell on, as far as there is room and cells; gives back how many.
-fn write(d: usize, n: usize, s: usize, cell: usize, out: &mut [u16]) -> usize
+// Writes L from a cell on, as far as there is room and cells; gives back how many. stop is where the row ends, or the room.
+pub fn write(d: usize, n: usize, s: usize, cell: usize, out: &mut [u16]) -> usize
     requires { ⌜ Block d n s cell ⌝ }
     ensures { λ r. ⌜ Ran (carrierL d n s) n cell (now (out .entry)) (now (out .exit)) r ⌝ }
 {
+    let count = least(out.len(), n - cell);
     let c = n / d;
     let top = d * (s - 1);
     let group = d * s;
-    let count = least(out.len(), n - cell);
     let mut row = cell / c;
     let mut col = cell % c;
+    let mut stop = least(count, c - col);
     let mut at = RowSpot::new(d, s, row, col);
     let mut i = 0;
     while i < count {
-        let stop = least(count, i + (c - col));
         let end = along(d, n, s, top, group, row, col, at, out, i, stop);
         at = end.next_row(d, top, row);
         row += 1;
         col = 0;
         i = stop;
+        stop = least(count, i + c);
     }
     count
 }
 
-// The walk for L from any cell: 9 past the last, else what is written, and a cell for each address.
+// The walk for L from any cell: 9 past the last, else what is written, and a cell for each address. With no room nothing is set up.
 pub fn walk(d: usize, n: usize, s: usize, cell: usize, out: &mut [u16]) -> Leaf
     requires { ⌜ Whole d n s ⌝ }
     ensures { λ r. ⌜ LeafOf n (carrierRule d n s) cell (now (out .entry)) (now (out .exit)) r ⌝ }
 {
     if n < cell {
         return Leaf::Stopped(9);
+    }
+    if out.len() == 0 {
+        return Leaf::Went {
+            written: 0,
+            cells: 0,
+        };
     }
     let count = write(d, n, s, cell, out);
     Leaf::Went {

@@ -1,7 +1,7 @@
 -- What each family's leaf requires of an accepted set, and that the rule it serves is the set's.
 use Prim.Native.Nat.{ℕ}
 use mathlib.Core.List.{List}
-use mathlib.Core.Path.{_≡_, sym, ap₂, _∙_, subst}
+use mathlib.Core.Path.{_≡_, sym, ap, ap₂, _∙_, subst}
 use native.Mathlib.Omega.{arith}
 use Rattle.laws.specs.declared.Way.{Way}
 use Rattle.laws.specs.declared.Leaf.{Leaf}
@@ -9,22 +9,47 @@ use Rattle.laws.specs.declared.Single.{Single}
 use Rattle.laws.specs.Walk.{Rule, inWay, LeafOf, SingleOf}
 use Rattle.sets.specs.declared.Set.{Set}
 use Rattle.sizes.specs.declared.Family.{Family}
-use Rattle.sizes.specs.declared.Family.the-variants.{Carrier, Turbo}
-use Rattle.sets.specs.Set.{rowsOf, groupOf}
-use Rattle.sets.specs.Carried.{carried, turbo-size}
+use Rattle.sizes.specs.declared.Family.the-variants.{Carrier, Spatial, Turbo}
+use Rattle.sets.specs.Set.{isTurbo, rowsOf, rotationOf, groupOf}
+use Rattle.sets.specs.Carried.{carried, stream-in, turbo-size}
 use Rattle.carrier.specs.Formula.{carrierRule}
 use Rattle.carrier.specs.Block.{Whole}
+use Rattle.carrier_turned.specs.declared.Stream.{Stream}
+use Rattle.carrier_turned.specs.Turned.{ruleBy}
+use Rattle.carrier_turned.specs.Turned as leaf
 use Rattle.wcdma_shape.specs.Rectangle.{Size}
 use Rattle.wcdma.specs.Turbo.{turboRule}
-use Rattle.families.specs.Rules.{ruleOf, ruleIn, barred, rule-is}
+use Rattle.families.specs.Rules.{familyRule, ruleOf, ruleIn, barred, rule-is}
 use Rattle.families.specs.Taken.{Taken}
 
 module _ {s : Set} (t : Taken s Carrier) {d g : ℕ} (p : d ≡ rowsOf s) (q : g ≡ groupOf s) where
   pub carrier-whole : Whole d (s .n) g
-  carrier-whole = let z = carried s (t .accepted) (t .which) in rw (p, q) (record { size = z .sized; small = omega (arith, z .small) })
+  carrier-whole = let z = carried s (t .accepted) (ap isTurbo (t .which)) in rw (p, q) (record { size = z .sized; small = omega (arith, z .small) })
 
   pub carrier-rule : carrierRule d (s .n) g ≡ ruleOf s
   carrier-rule = ap₂ (λ (d g : ℕ). carrierRule d (s .n) g) p q ∙ sym (rule-is s (t .which))
+
+-- the block of a spatial stream
+abbrev pub streamOf : Set → Stream
+streamOf s = record { d = rowsOf s; n = s .n; s = groupOf s; bits = s .bits; r = rotationOf s; stream = s .stream }
+
+module _ {s : Set} (t : Taken s Spatial) {b : Stream} (e : b ≡ streamOf s) where
+  pub spatial-block : leaf.Spatial b
+  spatial-block =
+      let z = carried s (t .accepted) (ap isTurbo (t .which)) in
+      let i = stream-in s (t .accepted) in
+      rw e (record { size = z .sized; small = omega (arith, z .small); first = i .0; last = i .1; below = z .below })
+
+  -- what its leaf promises is of the set's numbers
+  pub spatial-leaf : (asked : Way) {cell : ℕ} {old new : List ℕ} {leaf : Leaf} → LeafOf (b .n) (inWay asked (b .n) (ruleBy b)) cell old new leaf
+      → LeafOf (s .n) (inWay asked (s .n) (familyRule Spatial s)) cell old new leaf
+  spatial-leaf asked {cell} {old} {new} {leaf} o =
+      subst (λ (b : Stream). LeafOf (b .n) (inWay asked (b .n) (ruleBy b)) cell old new leaf) e o
+
+  pub spatial-single : (asked : Way) {x : ℕ} {one : Single} → SingleOf (b .n) (ruleBy b) (inWay asked (b .n) (ruleBy b) .l) x one
+      → SingleOf (s .n) (familyRule Spatial s) (inWay asked (s .n) (familyRule Spatial s) .l) x one
+  spatial-single asked {x} {one} o =
+      subst (λ (b : Stream). SingleOf (b .n) (ruleBy b) (inWay asked (b .n) (ruleBy b) .l) x one) e o
 
 module _ {s : Set} (t : Taken s Turbo) where
   pub turbo-sized : Size (s .n)

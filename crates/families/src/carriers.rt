@@ -12,7 +12,7 @@ pub(super) fn walk(way: Way, set: Set, cell: usize, out: &mut [u16]) -> Leaf
     requires { ⌜ Taken set Carrier ⌝ }
     ensures { λ r. ⌜ WalkLeaf way set cell (now (out .entry)) (now (out .exit)) r ⌝ }
 {
-    let d = sets::rows_of(set) as usize;
+    let d = sets::numbers_of(set).d as usize;
     let s = sets::group_of(set) as usize;
     match way {
         Way::Interleaver => carrier_rows::walk(d, set.n as usize, s, cell, out),
@@ -24,7 +24,7 @@ pub(super) fn address(way: Way, set: Set, x: usize) -> Single
     requires { ⌜ Taken set Carrier ⌝ }
     ensures { λ r. ⌜ SingleOf (set .n) (ruleOf set) (ruleIn way set .l) x r ⌝ }
 {
-    let d = sets::rows_of(set) as usize;
+    let d = sets::numbers_of(set).d as usize;
     let s = sets::group_of(set) as usize;
     match way {
         Way::Interleaver => carrier_rows::one(d, set.n as usize, s, x),

@@ -8,25 +8,21 @@ ghost use Rattle.sets.specs.Admits.{Accepted};
 ghost use Rattle.families.specs.Taken.{WalkLeaf};
 
 mod carriers; // carriers.rt: the carrier family
+mod spatial; // spatial.rt: the spatial family
 mod turbo; // turbo.rt: the turbo family
 
 use laws::Leaf;
 use laws::Single;
 use laws::Way;
 use sets::Set;
-use sizes::Family;
 
 // Whether a walk is not had: M of a family whose M is not walked.
 pub fn is_barred(way: Way, set: Set) -> bool
     ensures { λ r. ⌜ r ≡ barred way (familyOf set) ⌝ }
 {
-    let family = sets::family_of(set);
     match way {
         Way::Interleaver => false,
-        Way::Deinterleaver => match family {
-            Family::Carrier => false,
-            Family::Turbo => true,
-        },
+        Way::Deinterleaver => sets::is_turbo(set),
     }
 }
 
@@ -35,11 +31,13 @@ pub fn walk(way: Way, set: Set, cell: usize, out: &mut [u16]) -> Leaf
     requires { ⌜ Accepted set ⌝ }
     ensures { λ r. ⌜ WalkLeaf way set cell (now (out .entry)) (now (out .exit)) r ⌝ }
 {
-    let family = sets::family_of(set);
-    match family {
-        Family::Carrier => carriers::walk(way, set, cell, out),
-        Family::Turbo => turbo::walk(way, set, cell, out),
+    if sets::is_turbo(set) {
+        return turbo::walk(way, set, cell, out);
     }
+    if sets::is_spatial(set) {
+        return spatial::walk(way, set, cell, out);
+    }
+    carriers::walk(way, set, cell, out)
 }
 
 // One address of an accepted set, by family.
@@ -47,9 +45,11 @@ pub fn address(way: Way, set: Set, x: usize) -> Single
     requires { ⌜ Accepted set ⌝ }
     ensures { λ r. ⌜ SingleOf (set .n) (ruleOf set) (ruleIn way set .l) x r ⌝ }
 {
-    let family = sets::family_of(set);
-    match family {
-        Family::Carrier => carriers::address(way, set, x),
-        Family::Turbo => turbo::address(way, set, x),
+    if sets::is_turbo(set) {
+        return turbo::address(way, set, x);
     }
+    if sets::is_spatial(set) {
+        return spatial::address(way, set, x);
+    }
+    carriers::address(way, set, x)
 }

@@ -1,19 +1,33 @@
--- `families::walk` gives the walk to the family of the set.
+-- `families::walk` asks the family of the set.
 use mathlib.Core.Path.{sym, _∙_}
+use Rattle.families.specs.Taken.{the-turbo, the-spatial, the-carrier}
 use borrow.Author.Needs.{needs}
 use Rattle.families.proofs.walk.Statement.{statement}
 use Rattle.families.proofs.walk.Tie as tie
 
 walk-requires : tie.Need-walk-requires
 walk-requires c κs =
-    record { accepted = c .before .before .before .before .before .pre; which = sym (c .before .before .before .family-of .ensures) ∙ c .before .enum-told .given .1 }
+    let i = c .before in
+    let t = i .before in
+    record { accepted = t .before .before .pre; which = the-turbo _ (sym (t .is-turbo .ensures) ∙ i .if1 .taken) }
 
 walk-requires-2 : tie.Need-walk-requires-2
 walk-requires-2 c κs =
-    record { accepted = c .before .before .before .before .before .pre; which = sym (c .before .before .before .family-of .ensures) ∙ c .before .enum-told2 .given .1 }
+    let i = c .before in
+    let t = i .before .before .before in
+    record { accepted = t .before .before .pre; which = the-spatial _ (sym (i .before .is-spatial .ensures) ∙ i .if2 .taken) }
+
+walk-requires-3 : tie.Need-walk-requires-3
+walk-requires-3 c κs =
+    let i = c .before in
+    let t = i .before .before .before in
+    record {
+      accepted = t .before .before .pre;
+      which = the-carrier _ (sym (t .is-turbo .ensures) ∙ i .before .before .if1 .left) (sym (i .before .is-spatial .ensures) ∙ i .if2 .left);
+    }
 
 pub walk-spec : {M : Type 1} → statement M
 walk-spec =
     tie.close
-    (tie.spec (λ c κs. search needs) (λ c. search needs) walk-requires (λ c. search needs) walk-requires-2 (λ c. search needs) (λ c. search needs)
-    (λ c. search needs) (λ c. search needs))
+    (tie.spec (λ c κs. search needs) walk-requires (λ c. search needs) (λ c. search needs) (λ c κs. search needs) walk-requires-2 (λ c. search needs) (λ c. search needs)
+    walk-requires-3 (λ c. search needs) (λ c. search needs))

@@ -1,5 +1,7 @@
 -- `families::carriers::walk` is the set's walk: the leaf's, at the set's d, N and s.
+use mathlib.Core.Path.{ap}
 use Rattle.laws.specs.declared.Way.the-variants.{Interleaver, Deinterleaver}
+use Rattle.sizes.specs.declared.Numbers.{Numbers}
 use Rattle.families.specs.Taken.{had-leaf}
 use Rattle.families.specs.Families.{carrier-whole, carrier-rule, leaf-in, barred-is}
 use borrow.Author.Needs.{needs}
@@ -8,21 +10,33 @@ use Rattle.families.proofs.carriers.walk.Tie as tie
 
 walk-requires : tie.Need-walk-requires
 walk-requires c κs =
-    carrier-whole (c .before .before .before .before .before .before .before .pre) (c .before .before .before .before .before .rows-of .ensures) (c .before .before .before .before .group-of .ensures .0)
+    let g = c .before .before .before .before in
+    let n = g .before .before in
+    carrier-whole (n .before .before .pre) (ap (λ (x : Numbers). x .d) (n .numbers-of .ensures)) (g .group-of .ensures .0)
 
 walk-requires-2 : tie.Need-walk-requires-2
 walk-requires-2 c κs =
-    carrier-whole (c .before .before .before .before .before .before .before .pre) (c .before .before .before .before .before .rows-of .ensures) (c .before .before .before .before .group-of .ensures .0)
+    let g = c .before .before .before .before in
+    let n = g .before .before in
+    carrier-whole (n .before .before .pre) (ap (λ (x : Numbers). x .d) (n .numbers-of .ensures)) (g .group-of .ensures .0)
 
 returns : tie.Need-returns
 returns c =
-    let e = c .before .before .before .before .before .enum-told .given .1 in
-    had-leaf _ _ (barred-is e (c .before .before .before .before .before .before .before .before .before .before .pre .which)) (leaf-in _ (carrier-rule (c .before .before .before .before .before .before .before .before .before .before .pre) (c .before .before .before .before .before .before .before .before .rows-of .ensures) (c .before .before .before .before .before .before .before .group-of .ensures .0)) Interleaver e (c .before .before .walk .ensures))
+    let t = c .before .before .before .before .before in
+    let g = t .before .before in
+    let n = g .before .before in
+    let p = n .before .before .pre in
+    had-leaf _ _ (barred-is (t .enum-told .given .1) (p .which))
+    (leaf-in _ (carrier-rule p (ap (λ (x : Numbers). x .d) (n .numbers-of .ensures)) (g .group-of .ensures .0)) Interleaver (t .enum-told .given .1) (c .before .before .walk .ensures))
 
 returns-2 : tie.Need-returns-2
 returns-2 c =
-    let e = c .before .before .before .before .before .enum-told2 .given .1 in
-    had-leaf _ _ (barred-is e (c .before .before .before .before .before .before .before .before .before .before .pre .which)) (leaf-in _ (carrier-rule (c .before .before .before .before .before .before .before .before .before .before .pre) (c .before .before .before .before .before .before .before .before .rows-of .ensures) (c .before .before .before .before .before .before .before .group-of .ensures .0)) Deinterleaver e (c .before .before .walk2 .ensures))
+    let t = c .before .before .before .before .before in
+    let g = t .before .before in
+    let n = g .before .before in
+    let p = n .before .before .pre in
+    had-leaf _ _ (barred-is (t .enum-told2 .given .1) (p .which))
+    (leaf-in _ (carrier-rule p (ap (λ (x : Numbers). x .d) (n .numbers-of .ensures)) (g .group-of .ensures .0)) Deinterleaver (t .enum-told2 .given .1) (c .before .before .walk2 .ensures))
 
 pub walk-spec : {M : Type 1} → statement M
 walk-spec =
