@@ -12,9 +12,9 @@ use Rattle.walks.specs.Answer.{Values, walkedOf}
 use Rattle.tables.specs.Answer.{movedOf}
 use Rattle.streams.specs.declared.Stream.{Stream}
 
--- the parameter set that C lends: profile, bits, n
+-- the parameter set that C lends: profile, bits, n, stream
 unfoldable pub setOf : List ℕ → Set
-setOf l = record { profile = getD l 0 0; bits = getD l 1 0; n = getD l 2 0 }
+setOf l = record { profile = getD l 0 0; bits = getD l 1 0; n = getD l 2 0; stream = getD l 3 0 }
 
 -- a walk's record: the set, and the number behind `cell`
 unfoldable pub walkOf : List ℕ → ℕ → Walk

@@ -18,9 +18,9 @@ ghost use Rattle.streams.specs.Answers.{sayStarted, sayFed};
 ghost use Rattle.flat.specs.Flat.{setOf, walkOf, streamOf, numberOf, streamNumberOf, outOf, phaseOut};
 
 // How many numbers a set is.
-pub const SET: usize = 3;
+pub const SET: usize = 4;
 
-// The set that is lent: profile, bits, n.
+// The set that is lent: profile, bits, n, stream.
 pub fn set_of(set: &[u32; SET]) -> Set
     ensures { λ r. ⌜ r ≡ setOf (now (set .entry)) ⌝ }
 {
@@ -28,6 +28,7 @@ pub fn set_of(set: &[u32; SET]) -> Set
         profile: set[0],
         bits: set[1],
         n: set[2],
+        stream: set[3],
     }
 }
 

@@ -14,19 +14,19 @@ use Rattle.laws.specs.Perm.{Perm}
 use Rattle.laws.specs.Told.{NoneTrue}
 use Rattle.laws.specs.Walk.{Rule}
 use Rattle.sets.specs.declared.Set.{Set}
-use Rattle.sizes.specs.Size.{sizesOf}
-use Rattle.sets.specs.Set.{sizeOf, rowsOf, groupOf}
-use Rattle.sizes.specs.Profiles.{ofdm, ofdma, wlan, bench, turbo, listedSizes}
-use Rattle.sizes.specs.Listed.{counts}
+use Rattle.sets.specs.Set.{rowsOf, rotationOf, groupOf}
+use Rattle.sizes.specs.Profiles.{ofdm, ofdma, wlan, bench, turbo, spatials}
+use Rattle.sets.specs.Listed.{entryOf, setsOf, allSets, listedSets, counts}
 use Rattle.sets.specs.Beside.{besideSentences}
 use Rattle.sets.specs.Verdict.{verdictOf}
-use Rattle.sets.specs.Admits as admitted
-use Rattle.sets.specs.Carried.{five-turbo, other-carrier}
+use Rattle.sets.specs.Listed as admitted
+use Rattle.sets.specs.Carried.{carrier-profile, five-turbo, spatial-profile, numbers-ht20, numbers-ht40}
 use Rattle.carrier.specs.Formula.{carrierL, carrierM}
 use Rattle.carrier.specs.Once.{carrier-once}
+use Rattle.carrier.specs.Third.{turn, spatialL, spatialM}
 use Rattle.wcdma.specs.Turbo.{turboL, turboM}
 use Rattle.walks.specs.declared.Walk.{Walk}
-use Rattle.families.specs.Rules.{ruleIn, rule-is}
+use Rattle.families.specs.Rules.{ruleIn, rule-is, spatial-is}
 use Rattle.families.specs.Rules as rules
 use Rattle.walks.specs.Lists as lists
 use Rattle.walks.specs.Answer.{walkedOf, walkValues, foundOf}
@@ -36,19 +36,19 @@ use Rattle.tables.specs.Passed.{block-served}
 use Rattle.blocks.specs.Answer.{moved}
 use Rattle.blocks.specs.Laws as moves
 
--- a set is listed: its size, which is its profile, bits and N, stands in document 01's table, counted out size by size, and no sentence of
--- what a set must have beside it holds. (Crate sets, specs/Beside.antt: it need have nothing)
+-- a set is listed: its size, which is its profile, bits and N, with its stream, stands in the table, document 01's and request 4's, counted out set
+-- by set, and no sentence of what a set must have beside that holds. (Crate sets, specs/Listed.antt and specs/Beside.antt: it need have nothing)
 abbrev pub Listed : Set → Type 0
-Listed s = List·Memᴰ (sizeOf s) listedSizes × NoneTrue (besideSentences s)
+Listed s = List·Memᴰ (entryOf s) listedSets × NoneTrue (besideSentences s)
 
 -- "Exactly the listed parameter sets are accepted": the test of a set says accepted if and only if it is listed. The table ..
 pub admits : (s : Set) → Listed s ↔ (verdictOf s ≡ done tt)
 admits s = admitted.admits s
 
--- .. has 20, 11, 4, 272 and 5,075 sizes for profiles 1 to 5
-pub listed-counts : (length (sizesOf ofdm) ≡ 20) × (length (sizesOf ofdma) ≡ 11) × (length (sizesOf wlan) ≡ 4) × (length (sizesOf bench) ≡ 272)
-    × (length (sizesOf turbo) ≡ 5075)
-listed-counts = (counts .ofdm-has, counts .ofdma-has, counts .wlan-has, counts .bench-has, counts .turbo-has)
+-- .. has 20, 11, 4, 272 and 5,075 sets for profiles 1 to 5, and 32 for 6 and 7, which is four streams for each of eight sizes
+pub listed-counts : (length (setsOf ofdm) ≡ 20) × (length (setsOf ofdma) ≡ 11) × (length (setsOf wlan) ≡ 4) × (length (setsOf bench) ≡ 272)
+    × (length (setsOf turbo) ≡ 5075) × (length (allSets spatials) ≡ 32)
+listed-counts = (counts .ofdm-has, counts .ofdma-has, counts .wlan-has, counts .bench-has, counts .turbo-has, counts .spatials-have)
 
 -- and accepted means served: of a listed set a walk is done from every cell up to the total, with any room (for M, profile 5 apart) ..
 pub served-walk : (way : Way) (w : Walk) (room : ℕ) → Listed (w .set) → (way ≡ Deinterleaver → w .set .profile ≢ 5) → w .cell ≤ ruleIn way (w .set) .total
@@ -71,16 +71,39 @@ abbrev pub M : Set → ℕ → ℕ
 M s = rules.M s
 
 -- they are the carrier formulas for profiles 1 to 4 ..
-pub formulas-carrier : (s : Set) → s .profile ≢ 5 → (L s ≡ carrierL (rowsOf s) (s .n) (groupOf s)) × (M s ≡ carrierM (rowsOf s) (s .n) (groupOf s))
-formulas-carrier s ne =
-    let e = rule-is s (other-carrier s ne) in
+pub formulas-carrier : (s : Set) → s .profile < 5 → (L s ≡ carrierL (rowsOf s) (s .n) (groupOf s)) × (M s ≡ carrierM (rowsOf s) (s .n) (groupOf s))
+formulas-carrier s h =
+    let e = rule-is s (carrier-profile s h) in
     (ap (λ (r : Rule). r .l) e, ap (λ (r : Rule). r .m) e)
 
--- .. and for profile 5 the WCDMA turbo list of 3GPP TS 25.212, and the place in it
+-- .. for profile 5 the WCDMA turbo list of 3GPP TS 25.212, and the place in it ..
 pub formulas-turbo : (s : Set) → s .profile ≡ 5 → (L s ≡ turboL (s .n)) × (M s ≡ turboM (s .n))
 formulas-turbo s e =
     let q = rule-is s (five-turbo s e) in
     (ap (λ (r : Rule). r .l) q, ap (λ (r : Rule). r .m) q)
+
+-- .. and for profiles 6 and 7 the three steps of IEEE 802.11n, with d 13 and r 11 at 20 MHz ..
+pub formulas-ht20 : (s : Set) → s .profile ≡ 6
+    → (L s ≡ spatialL 13 (s .n) (groupOf s) (s .bits) 11 (s .stream)) × (M s ≡ spatialM 13 (s .n) (groupOf s) (s .bits) 11 (s .stream))
+formulas-ht20 s e =
+    let q = spatial-is s 13 11 (omega arith) (numbers-ht20 s e) in
+    (ap (λ (r : Rule). r .l) q, ap (λ (r : Rule). r .m) q)
+
+-- .. and d 18 and r 29 at 40 MHz
+pub formulas-ht40 : (s : Set) → s .profile ≡ 7
+    → (L s ≡ spatialL 18 (s .n) (groupOf s) (s .bits) 29 (s .stream)) × (M s ≡ spatialM 18 (s .n) (groupOf s) (s .bits) 29 (s .stream))
+formulas-ht40 s e =
+    let q = spatial-is s 18 29 (omega arith) (numbers-ht40 s e) in
+    (ap (λ (r : Rule). r .l) q, ap (λ (r : Rule). r .m) q)
+
+-- whose turn is below N, so that nothing is taken from 0, and of stream 1 leaves the two steps as they are
+module _ (s : Set) (l : Listed s) (h : 5 < s .profile) where
+  pub turned-below : turn (s .bits) (rotationOf s) (s .stream) < s .n
+  turned-below = rules.turned-below s (admits s .0 l) (spatial-profile s h)
+
+  pub stream-one : s .stream ≡ 1 → (t : ℕ) → t < s .n
+      → (L s t ≡ carrierL (rowsOf s) (s .n) (groupOf s) t) × (M s t ≡ carrierM (rowsOf s) (s .n) (groupOf s) t)
+  stream-one e t o = rules.stream-one s (admits s .0 l) (spatial-profile s h) e t o
 
 -- "Each index is used once": of every listed set, L and M are below N and undo each other there
 pub each-once : (s : Set) → Listed s → Perm (s .n) (L s) (M s)

@@ -1,7 +1,7 @@
 -- Condition 3 of the tender, for the address walks: cut anywhere, with refused calls between, joined, the outcome is that of one call, and of
 -- the closed form. A way is a parameter: the walk for L is the interleaver's, the walk for M the deinterleaver's. (The streams' part is in
 -- Stream.antt.)
-use Prim.Native.Nat.{ℕ, min, _+_, _-_, _≤_}
+use Prim.Native.Nat.{ℕ, min, _+_, _-_, _≤_, _<_}
 use mathlib.Core.List.{List, []}
 use mathlib.Core.Logic.{_≢_}
 use mathlib.Core.Path.{_≡_, refl, ap}
@@ -16,9 +16,10 @@ use Rattle.laws.specs.Ends.{EndsAt, ends-once}
 use Rattle.laws.specs.Pieces as pieces
 use Rattle.laws.specs.Walk.{Rule}
 use Rattle.sets.specs.declared.Set.{Set}
-use Rattle.sets.specs.Set.{rowsOf, groupOf}
-use Rattle.sets.specs.Carried.{five-turbo, other-carrier}
+use Rattle.sets.specs.Set.{rowsOf, rotationOf, groupOf}
+use Rattle.sets.specs.Carried.{carrier-profile, five-turbo, spatial-profile}
 use Rattle.carrier.specs.Formula.{carrierL, carrierM}
+use Rattle.carrier.specs.Third.{spatialL, spatialM}
 use Rattle.wcdma_shape.specs.Rectangle.{cells}
 use Rattle.wcdma.specs.Turbo.{address}
 use Rattle.walks.specs.declared.Walk.{Walk}
@@ -41,10 +42,10 @@ pub walk-goes-on : (way : Way) (w : Walk) (room more : ℕ) {v : Values} → wal
 walk-goes-on way w room more e = calls.goes-on way w room more e
 
 -- what a walk goes along. L, profiles 1 to 4: N cells, and the address of a cell is the formula's ..
-pub rule-carrier : (s : Set) → s .profile ≢ 5
+pub rule-carrier : (s : Set) → s .profile < 5
     → (ruleIn Interleaver s .total ≡ s .n) × (ruleIn Interleaver s .address ≡ carrierL (rowsOf s) (s .n) (groupOf s))
-rule-carrier s ne =
-    let e = rule-is s (other-carrier s ne) in
+rule-carrier s h =
+    let e = rule-is s (carrier-profile s h) in
     (ap (λ (r : Rule). r .total) e, ap (λ (r : Rule). r .address) e)
 
 -- .. profile 5: the cells of the rectangle, R·C, and the address of a cell is T(i)·C + u, with u of the column that it takes ..
@@ -53,10 +54,24 @@ rule-turbo s p =
     let e = rule-is s (five-turbo s p) in
     (ap (λ (r : Rule). r .total) e, ap (λ (r : Rule). r .address) e)
 
--- .. M, profiles 1 to 4: N cells, the input positions, and the address of a cell is the formula's
-pub rule-back : (s : Set) → s .profile ≢ 5
+-- .. profiles 6 and 7: N cells, and the address of a cell is that of the three steps ..
+pub rule-spatial : (s : Set) → 5 < s .profile
+    → (ruleIn Interleaver s .total ≡ s .n)
+    × (ruleIn Interleaver s .address ≡ spatialL (rowsOf s) (s .n) (groupOf s) (s .bits) (rotationOf s) (s .stream))
+rule-spatial s h =
+    let e = rule-is s (spatial-profile s h) in
+    (ap (λ (r : Rule). r .total) e, ap (λ (r : Rule). r .address) e)
+
+-- .. M: N cells, the input positions, and the address of a cell is the formula's, profiles 1 to 4 ..
+pub rule-back : (s : Set) → s .profile < 5
     → (ruleIn Deinterleaver s .total ≡ s .n) × (ruleIn Deinterleaver s .address ≡ carrierM (rowsOf s) (s .n) (groupOf s))
-rule-back s ne = (refl, ap (λ (r : Rule). r .m) (rule-is s (other-carrier s ne)))
+rule-back s h = (refl, ap (λ (r : Rule). r .m) (rule-is s (carrier-profile s h)))
+
+-- .. and 6 and 7
+pub rule-back-spatial : (s : Set) → 5 < s .profile
+    → (ruleIn Deinterleaver s .total ≡ s .n)
+    × (ruleIn Deinterleaver s .address ≡ spatialM (rowsOf s) (s .n) (groupOf s) (s .bits) (rotationOf s) (s .stream))
+rule-back-spatial s h = (refl, ap (λ (r : Rule). r .m) (rule-is s (spatial-profile s h)))
 
 module _ (way : Way) (w : Walk) (room : ℕ) where
   -- the closed form of the list: from any cell, with any room, the first of the addresses that are not padding among the cells from there to the total

@@ -13,8 +13,10 @@ use Rattle.laws.specs.Members.{All}
 use Rattle.laws.specs.Once.{inside}
 use Rattle.laws.specs.Position.{position}
 use Rattle.sets.specs.declared.Set.{Set}
-use Rattle.sets.specs.Set.{familyOf, rowsOf, groupOf}
+use Rattle.sets.specs.Set.{familyOf, numbersOf, groupOf}
+use Rattle.sizes.specs.Profiles.{entryBy}
 use Rattle.carrier.specs.Formula.{firstStep, secondStep, carrierM, backStep, lastStep, carrierL}
+use Rattle.carrier.specs.Third.{turn, thirdStep, spatialM, thirdBack, spatialL}
 use Rattle.wcdma_shape.specs.Rectangle.{rows, primes, firstPrime, prime, colsOf, cols, cells}
 use Rattle.wcdma_shape.specs.Powers.{power, firstOne, generates, rootFrom, root}
 use Rattle.wcdma_setup.specs.Numbers.{noDivisor, isPrime, passes, nextIn, nextQ, qOf}
@@ -64,21 +66,27 @@ pub record Row : Type 0 where
 abbrev pub row : (q : Question) (s : Set) (x : ℕ) (e : List ℕ) → answer q s x ≡ e → Row
 row q s x e h = record { question = q; set = s; argument = x; expected = e; holds = h }
 
--- a set of profile 1 to 5; b: bits, n: N, k: K
+-- a set of profile 1 to 7; b: bits, n: N, k: K, i: the stream
 abbrev pub ofdm : ℕ → ℕ → Set
-ofdm b n = record { profile = 1; bits = b; n = n }
+ofdm b n = record { profile = 1; bits = b; n = n; stream = 1 }
 
 abbrev pub ofdma : ℕ → ℕ → Set
-ofdma b n = record { profile = 2; bits = b; n = n }
+ofdma b n = record { profile = 2; bits = b; n = n; stream = 1 }
 
 abbrev pub wlan : ℕ → ℕ → Set
-wlan b n = record { profile = 3; bits = b; n = n }
+wlan b n = record { profile = 3; bits = b; n = n; stream = 1 }
 
 abbrev pub bench : ℕ → ℕ → Set
-bench b n = record { profile = 4; bits = b; n = n }
+bench b n = record { profile = 4; bits = b; n = n; stream = 1 }
 
 abbrev pub turbo : ℕ → Set
-turbo k = record { profile = 5; bits = 1; n = k }
+turbo k = record { profile = 5; bits = 1; n = k; stream = 1 }
+
+abbrev pub ht20 : ℕ → ℕ → ℕ → Set
+ht20 b n i = record { profile = 6; bits = b; n = n; stream = i }
+
+abbrev pub ht40 : ℕ → ℕ → ℕ → Set
+ht40 b n i = record { profile = 7; bits = b; n = n; stream = i }
 
 -- the padding by cells = K + padding, for a K with too many cells to count them one by one here
 pub counted : (k : ℕ) → k ≤ 5114 → answer padded (turbo k) 0 ≡ (cells k - k) ∷ []
@@ -87,7 +95,7 @@ counted k h = let e : padCells k ≡ cells k - k = omega (arith, cells-are k h) 
 
 -- the table, in 01's order
 unfoldable pub stars : List Row
-unfolding answer padCells padding listL ruleOf familyOf keep rowsOf groupOf firstStep secondStep carrierM backStep lastStep carrierL rows primes firstPrime prime colsOf cols cells power firstOne generates rootFrom root gcdIn gcd noDivisor isPrime passes nextIn nextQ qOf rowOrders whichOrder orderOf rowAt entry full column origin address
+unfolding answer padCells padding listL ruleOf familyOf entryBy keep numbersOf groupOf firstStep secondStep carrierM backStep lastStep carrierL rows primes firstPrime prime colsOf cols cells power firstOne generates rootFrom root gcdIn gcd noDivisor isPrime passes nextIn nextQ qOf rowOrders whichOrder orderOf rowAt entry full column origin address
 stars =
     -- Profile 3, bits 4, N 192: M of 0, 1, 16, 17, 191
     row M (wlan 4 192) 0 (0 ∷ []) refl
@@ -143,7 +151,7 @@ stars =
 
 -- cases of ours, in the same form: their numbers were computed from the documents by another program than the definitions
 unfoldable pub ours : List Row
-unfolding answer padCells padding listL ruleOf familyOf keep rowsOf groupOf firstStep secondStep carrierM backStep lastStep carrierL rows primes firstPrime prime colsOf cols cells power firstOne generates rootFrom root gcdIn gcd noDivisor isPrime passes nextIn nextQ qOf rowOrders whichOrder orderOf rowAt entry full column origin address addresses turboM position
+unfolding answer padCells padding listL ruleOf familyOf entryBy keep numbersOf groupOf firstStep secondStep carrierM backStep lastStep carrierL rows primes firstPrime prime colsOf cols cells power firstOne generates rootFrom root gcdIn gcd noDivisor isPrime passes nextIn nextQ qOf rowOrders whichOrder orderOf rowAt entry full column origin address addresses turboM position turn thirdStep spatialM thirdBack spatialL
 ours =
     -- Profile 1, d 12: bits 6, N 1,152, where s is 3; bits 4, N 768, where s is 2
     row M (ofdm 6 1152) 1 (98 ∷ []) refl
@@ -162,6 +170,17 @@ ours =
     ∷ row M (ofdma 6 576) 1 (38 ∷ []) refl
     ∷ row M (ofdma 6 576) 3 (108 ∷ []) refl
     ∷ row L (ofdma 6 576) 37 (33 ∷ []) refl
+    -- Profile 6, d 13, r 11: bits 2, N 104, stream 2, turned by 44; bits 4, N 208, stream 3, turned by 44
+    ∷ row M (ht20 2 104 2) 0 (60 ∷ []) refl
+    ∷ row M (ht20 2 104 2) 6 (4 ∷ []) refl
+    ∷ row M (ht20 2 104 2) 103 (59 ∷ []) refl
+    ∷ row L (ht20 2 104 2) 0 (57 ∷ []) refl
+    ∷ row M (ht20 4 208 3) 3 (5 ∷ []) refl
+    -- Profile 7, d 18, r 29: bits 6, N 648, stream 4, turned by 522; stream 1, not turned
+    ∷ row M (ht40 6 648 4) 1 (164 ∷ []) refl
+    ∷ row M (ht40 6 648 4) 647 (123 ∷ []) refl
+    ∷ row L (ht40 6 648 4) 647 (302 ∷ []) refl
+    ∷ row M (ht40 6 648 1) 1 (38 ∷ []) refl
     -- M of profile 5
     ∷ row M (turbo 40) 35 (5 ∷ []) refl
     -- K 201: the second row order of twenty; C = p. The first twenty addresses, in 22 cells

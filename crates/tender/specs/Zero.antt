@@ -11,6 +11,7 @@ use Rattle.laws.specs.declared.Way.{Way}
 use Rattle.laws.specs.Outcome.{done, refused, Line, Ruling, clear, stopped, first, settle, judged, after, First, first-stopped, stopped-first}
 use Rattle.sets.specs.declared.Set.{Set}
 use Rattle.sets.specs.Set.{sizeOf}
+use Rattle.sets.specs.Stream.{streamLines}
 use Rattle.sets.specs.Beside.{besideLines}
 use Rattle.sets.specs.Verdict.{sizeLines, setLines, verdictOf, refusal, refusal-number}
 use Rattle.walks.specs.declared.Walk.{Walk}
@@ -74,7 +75,9 @@ numbered-join (l ∷ ls) ms h k = (h .0, numbered-join ls ms (h .1) k)
 
 set-numbered : (s : Set) → Numbered (setLines s)
 unfolding setLines
-set-numbered s = numbered-join (sizeLines (sizeOf s)) (besideLines s) (positive 0, (positive 1, (positive 2, tt))) tt
+set-numbered s =
+    numbered-join (sizeLines (sizeOf s)) (streamLines s ++ besideLines s) (positive 0, (positive 1, (positive 2, tt)))
+    (numbered-join (streamLines s) (besideLines s) (positive 15, tt) tt)
 
 one-numbered : (s : Set) (x : ℕ) → Numbered (oneLines s x)
 unfolding oneLines

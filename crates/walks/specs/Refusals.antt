@@ -1,4 +1,4 @@
--- The refusals of the calls on a set in the sentences of document 01, in its order: 1, 2, 3, 8, 4, 9. A number is said exactly when its
+-- The refusals of the calls on a set in the sentences of document 01, in its order: 1, 2, 3, 16, 8, 4, 9. A number is said exactly when its
 -- sentence is the first that holds, and then the slice is what it was.
 use Prim.Native.Nat.{ℕ, _≤_, _<_}
 use mathlib.Core.Bool.{true, false, true≢false}
@@ -13,7 +13,7 @@ use Rattle.laws.specs.Told.{told-join}
 use Rattle.laws.specs.Walk.{Rule}
 use Rattle.sets.specs.declared.Set.{Set}
 use Rattle.sizes.specs.declared.Family.{Family}
-use Rattle.sizes.specs.declared.Family.the-variants.{Carrier, Turbo}
+use Rattle.sizes.specs.declared.Family.the-variants.{Carrier, Spatial, Turbo}
 use Rattle.sets.specs.Set.{familyOf}
 use Rattle.sets.specs.Carried.{five-turbo, turbo-five}
 use Rattle.sets.specs.Verdict.{refusal}
@@ -27,7 +27,7 @@ use Rattle.walks.specs.Answer.{planLines, walkLines, oneLines, walkValue
 abbrev pub SearchPasses : Set → Type 0
 SearchPasses s = (s .profile ≡ 5) × FewFound (s .n)
 
--- the sentences that stand before a block's lengths: 1, 2, 3, then 8
+-- the sentences that stand before a block's lengths: 1, 2, 3, 16, then 8
 abbrev pub planSentences : Set → List Sentence
 planSentences s = setSentences s ++ (sentence 8 (SearchPasses s) ∷ [])
 
@@ -47,6 +47,7 @@ gives-few s e = go (familyOf s) refl e
   where
     go : (f : Family) → familyOf s ≡ f → familyRule f s .fails ≡ true → SearchPasses s
     go Carrier q e = absurd (true≢false (sym e))
+    go Spatial q e = absurd (true≢false (sym e))
     go Turbo q e = (turbo-five s q, fails-few (s .n) e)
 
 few-gives : (s : Set) → ruleOf s .fails ≡ false → SearchPasses s → ⊥
@@ -59,6 +60,7 @@ barred-five Deinterleaver s e = (go (familyOf s) refl e, refl)
   where
     go : (f : Family) → familyOf s ≡ f → oneWay f ≡ true → s .profile ≡ 5
     go Carrier q e = absurd (true≢false (sym e))
+    go Spatial q e = absurd (true≢false (sym e))
     go Turbo q e = turbo-five s q
 
 five-barred : (way : Way) (s : Set) → barred way (familyOf s) ≡ false → (s .profile ≡ 5) × (way ≡ Deinterleaver) → ⊥
@@ -73,7 +75,7 @@ few-walk : (way : Way) (s : Set) → barred way (familyOf s) ≡ false → ruleI
 few-walk Interleaver s b e h = few-gives s e h
 few-walk Deinterleaver s b e h = five-barred Deinterleaver s b (h .0, refl)
 
--- 1, 2, 3 and 8 and their sentences, with others behind them
+-- 1, 2, 3, 16 and 8 and their sentences, with others behind them
 pub plan-told : {C : Type 0} (s : Set) {ls : List Line} {ps : List Sentence}
     → Told (C × Clear (planLines s)) ls ps → Told C (planLines s ++ ls) (planSentences s ++ ps)
 unfolding planLines

@@ -10,9 +10,9 @@ use Rattle.laws.specs.declared.Way.the-variants.{Interleaver, Deinterleaver}
 use Rattle.laws.specs.Outcome.{done, clear, first}
 use Rattle.sets.specs.declared.Set.{Set}
 use Rattle.sizes.specs.declared.Family.{Family}
-use Rattle.sizes.specs.declared.Family.the-variants.{Carrier, Turbo}
+use Rattle.sizes.specs.declared.Family.the-variants.{Carrier, Spatial, Turbo}
 use Rattle.sets.specs.Set.{familyOf}
-use Rattle.sets.specs.Carried.{other-carrier}
+use Rattle.sets.specs.Carried.{turbo-five}
 use Rattle.wcdma_setup.specs.Found.{search-ends}
 use Rattle.walks.specs.declared.Walk.{Walk}
 use Rattle.families.specs.Rules.{familyRule, ruleOf, ruleIn, oneWay, barred}
@@ -28,6 +28,7 @@ never-fails s = go (familyOf s)
   where
     go : (f : Family) → familyRule f s .fails ≡ false
     go Carrier = refl
+    go Spatial = refl
     go Turbo = search-ends (s .n)
 
 never-fails-in : (way : Way) (s : Set) → ruleIn way s .fails ≡ false
@@ -41,11 +42,16 @@ plan-clear s e = accepted-front s _ e ∙ rw (never-fails s)
 
 -- a walk is had but for M of profile 5
 pub walkable-listed : (way : Way) (s : Set) → Accepted s → (way ≡ Deinterleaver → s .profile ≢ 5) → Walkable way s
-walkable-listed way s e n = record { accepted = e; had = go way (λ q. ap oneWay (other-carrier s (n q))) }
+walkable-listed way s e n = record { accepted = e; had = go way (λ q. had (familyOf s) refl (n q)) }
   where
     go : (way : Way) → (way ≡ Deinterleaver → oneWay (familyOf s) ≡ false) → barred way (familyOf s) ≡ false
     go Interleaver h = refl
     go Deinterleaver h = h refl
+
+    had : (f : Family) → familyOf s ≡ f → s .profile ≢ 5 → oneWay f ≡ false
+    had Carrier q n = refl
+    had Spatial q n = refl
+    had Turbo q n = absurd (n (turbo-five s q))
 
 pub walk-served : (way : Way) (w : Walk) (room : ℕ) → Walkable way (w .set) → w .cell ≤ ruleIn way (w .set) .total
     → walkedOf way w room ≡ done (walkValues way w room)
