@@ -27,11 +27,14 @@ pub fn either(way: Way, there: &[u8], again: &[u8]) {
     }
 }
 
-// A parameter set, in the middle of a line.
+// A parameter set, in the middle of a line: the stream where it is not 1.
 pub fn set(s: Set) {
     number(b" profile ", s.profile as u64);
     number(b" bits ", s.bits as u64);
     number(b" N ", s.n as u64);
+    if s.stream != 1 {
+        number(b" stream ", s.stream as u64);
+    }
 }
 
 pub fn refused(x: Refusal) {

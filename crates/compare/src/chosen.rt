@@ -8,6 +8,17 @@ fn carrier_at(i: u32) -> Set {
         profile: i / 9216 % 4 + 1,
         bits: i / 1536 % 6 + 1,
         n: i % 1536 + 1,
+        stream: 1,
+    }
+}
+
+// The i-th of profiles 6 and 7, bits 1 to 6, streams 0 to 5, sizes 1 to 648: 46,656, most of them refused.
+fn spatial_at(i: u32) -> Set {
+    Set {
+        profile: i / 23328 % 2 + 6,
+        bits: i / 3888 % 6 + 1,
+        n: i % 648 + 1,
+        stream: i / 648 % 6,
     }
 }
 
@@ -16,15 +27,25 @@ pub fn turbo_set(k: u32) -> Set {
         profile: 5,
         bits: 1,
         n: k,
+        stream: 1,
     }
 }
 
 fn carrier_set(profile: u32, bits: u32, n: u32) -> Set {
-    Set { profile, bits, n }
+    spatial_set(profile, bits, n, 1)
 }
 
-// Twelve sets: each R and C, both orders of twenty, and each s.
-pub fn dozen_at(i: u32) -> Set {
+fn spatial_set(profile: u32, bits: u32, n: u32, stream: u32) -> Set {
+    Set {
+        profile,
+        bits,
+        n,
+        stream,
+    }
+}
+
+// Fourteen sets: each R and C, both orders of twenty, each s, and two that are turned.
+pub fn fourteen_at(i: u32) -> Set {
     match i {
         0 => turbo_set(40),
         1 => turbo_set(41),
@@ -37,11 +58,13 @@ pub fn dozen_at(i: u32) -> Set {
         8 => carrier_set(3, 4, 192),
         9 => carrier_set(3, 6, 288),
         10 => carrier_set(1, 6, 1152),
-        _ => carrier_set(4, 2, 1536),
+        11 => carrier_set(4, 2, 1536),
+        12 => spatial_set(6, 2, 104, 2),
+        _ => spatial_set(7, 6, 648, 4),
     }
 }
 
-// A choice of sets: 0 profiles 1 to 4, 1 profile 5, 2 the dozen.
+// A choice of sets: 0 profiles 1 to 4, 1 profile 5, 2 the fourteen, 3 profiles 6 and 7.
 pub fn set_at(choice: u32, i: u32) -> Set {
     if choice == 0 {
         return carrier_at(i);
@@ -49,7 +72,10 @@ pub fn set_at(choice: u32, i: u32) -> Set {
     if choice == 1 {
         return turbo_set(i % 5075 + 40);
     }
-    dozen_at(i)
+    if choice == 3 {
+        return spatial_at(i);
+    }
+    fourteen_at(i)
 }
 
 pub fn sets_in(choice: u32) -> u32 {
@@ -59,7 +85,10 @@ pub fn sets_in(choice: u32) -> u32 {
     if choice == 1 {
         return 5075;
     }
-    12
+    if choice == 3 {
+        return 46656;
+    }
+    14
 }
 
 pub fn accepted(set: Set) -> bool {

@@ -1,7 +1,8 @@
 // Compares every whole list with a second computation of it, which divides at each address and shares no function with the walk: all sets
-// of profiles 1 to 4 and every K, whole and in slices; and for a dozen sets shorter slices, blocks of bytes and single addresses. Each
-// comparison is tried on a list that is wrong on purpose as well, and has to count differences there; and every K on its list without the exchange of
-// full rectangles, to count the sizes that the exchange touches.
+// of profiles 1 to 4, 6 and 7 and every K, whole and in slices; and for fourteen sets shorter slices, blocks of bytes and single addresses. Each
+// comparison is tried on a list that is wrong on purpose as well, and has to count differences there; every K on its list without the exchange of
+// full rectangles, to count the sizes that the exchange touches; and the sets of 6 and 7 on their lists with no stream turned, to count those that
+// are.
 mod chosen;
 mod count;
 mod moves;
@@ -9,7 +10,7 @@ mod num;
 mod slices;
 
 use chosen::accepted;
-use chosen::dozen_at;
+use chosen::fourteen_at;
 use chosen::set_at;
 use chosen::sets_in;
 use chosen::turbo_set;
@@ -20,11 +21,12 @@ use second::Whole;
 use second::num::move_on;
 use sets::Set;
 
-// How a list is made: right; or wrong on purpose, one place off, or without the exchange at full rectangles.
+// How a list is made: right; or wrong on purpose, one place off, without the exchange at full rectangles, or with no stream turned.
 enum Made {
     Right,
     Off,
     Unexchanged,
+    Unturned,
 }
 
 fn one_off(way: Way, set: Set, list: &mut [u16]) -> Whole {
@@ -39,18 +41,23 @@ fn list_of(way: Way, set: Set, made: Made, list: &mut [u16]) -> Whole {
         Made::Right => second::list_of(way, set, list),
         Made::Off => one_off(way, set, list),
         Made::Unexchanged => second::unexchanged(set, list),
+        Made::Unturned => second::unturned(way, set, list),
     }
 }
 
-// What is counted of a set: without the exchange, the sets that it touches and no other.
+// A set is left out where nothing differs.
+fn if_touched(c: Count) -> Count {
+    if c.differences == 0 {
+        return Count::none();
+    }
+    c
+}
+
+// What is counted of a set: without the exchange or the turn, the sets that it touches and no other.
 fn counted(made: Made, c: Count) -> Count {
     match made {
-        Made::Unexchanged => {
-            if c.differences == 0 {
-                return Count::none();
-            }
-            c
-        }
+        Made::Unexchanged => if_touched(c),
+        Made::Unturned => if_touched(c),
         _ => c,
     }
 }
@@ -108,7 +115,7 @@ fn walks_of(way: Way, title: &[u8], choice: u32, size: usize) -> u64 {
 
 // Two blocks for each set, of low bytes and of high.
 fn blocks_one(i: u32, made: Made, list: &mut [u16]) -> Count {
-    let set = dozen_at(i / 2);
+    let set = fourteen_at(i / 2);
     list_of(Way::Interleaver, set, made, list);
     let mut src = [0u8; 6144];
     let mut dst = [0u8; 6144];
@@ -119,7 +126,7 @@ fn blocks_one(i: u32, made: Made, list: &mut [u16]) -> Count {
 fn blocks_each(list: &mut [u16]) -> Count {
     let mut c = Count::none();
     let mut i = 0;
-    while i < 24 {
+    while i < 28 {
         c = c.with(blocks_one(i, Made::Right, list));
         i += 1;
     }
@@ -134,7 +141,7 @@ fn blocks_of(title: &[u8]) -> u64 {
 }
 
 fn singles_one(i: u32, made: Made, list: &mut [u16]) -> Count {
-    let set = dozen_at(i);
+    let set = fourteen_at(i);
     list_of(Way::Interleaver, set, made, list);
     moves::singles(set, list)
 }
@@ -142,7 +149,7 @@ fn singles_one(i: u32, made: Made, list: &mut [u16]) -> Count {
 fn singles_each(list: &mut [u16]) -> Count {
     let mut c = Count::none();
     let mut i = 0;
-    while i < 12 {
+    while i < 14 {
         c = c.with(singles_one(i, Made::Right, list));
         i += 1;
     }
@@ -181,16 +188,51 @@ fn every_m() -> u64 {
     )
 }
 
-fn dozen_walks() -> u64 {
-    let a = walks_of(Way::Interleaver, b"L of a dozen, slices of 1", 2, 1);
-    let b = walks_of(Way::Interleaver, b"L of a dozen, slices of 7", 2, 7);
-    let c = walks_of(Way::Interleaver, b"L of a dozen, slices of 137", 2, 137);
+// L and M of profiles 6 and 7, whole and in slices that cut before, at and after the place where a turned list begins again.
+fn every_spatial_l() -> u64 {
+    let a = walks_of(Way::Interleaver, b"L of profiles 6 and 7, whole", 3, 0);
+    let b = walks_of(
+        Way::Interleaver,
+        b"L of profiles 6 and 7, slices of 1",
+        3,
+        1,
+    );
+    let c = walks_of(
+        Way::Interleaver,
+        b"L of profiles 6 and 7, slices of 7",
+        3,
+        7,
+    );
     sum(a, sum(b, c))
 }
 
-fn dozen_moves() -> u64 {
-    let a = blocks_of(b"blocks of bytes of a dozen, there and back");
-    let b = singles_of(b"single addresses of a dozen, there and back");
+fn every_spatial_m() -> u64 {
+    let a = walks_of(Way::Deinterleaver, b"M of profiles 6 and 7, whole", 3, 0);
+    let b = walks_of(
+        Way::Deinterleaver,
+        b"M of profiles 6 and 7, slices of 1",
+        3,
+        1,
+    );
+    let c = walks_of(
+        Way::Deinterleaver,
+        b"M of profiles 6 and 7, slices of 7",
+        3,
+        7,
+    );
+    sum(a, sum(b, c))
+}
+
+fn fourteen_walks() -> u64 {
+    let a = walks_of(Way::Interleaver, b"L of fourteen, slices of 1", 2, 1);
+    let b = walks_of(Way::Interleaver, b"L of fourteen, slices of 7", 2, 7);
+    let c = walks_of(Way::Interleaver, b"L of fourteen, slices of 137", 2, 137);
+    sum(a, sum(b, c))
+}
+
+fn fourteen_moves() -> u64 {
+    let a = blocks_of(b"blocks of bytes of fourteen, there and back");
+    let b = singles_of(b"single addresses of fourteen, there and back");
     sum(a, b)
 }
 
@@ -239,6 +281,14 @@ fn wrong_exchange() {
     );
 }
 
+// L and M of profiles 6 and 7 against the lists with no stream turned: the sets that are. In no total either.
+fn wrong_turn(way: Way, title: &[u8]) {
+    let mut list = [0u16; 12000];
+    let mut slice = [0u16; 6144];
+    let c = walk_each(way, 3, 0, Made::Unturned, &mut list, &mut slice);
+    count::walks_line(title, c);
+}
+
 fn main() {
     let carriers = sum(every_l(), every_m());
     let turbos = every(
@@ -247,10 +297,19 @@ fn main() {
         b"L of profile 5, whole",
         b"L of profile 5, slices of 1024",
     );
-    let dozen = sum(dozen_walks(), dozen_moves());
+    let spatials = sum(every_spatial_l(), every_spatial_m());
+    let fourteen = sum(fourteen_walks(), fourteen_moves());
     wrong_walk();
     wrong_block();
     wrong_singles();
     wrong_exchange();
-    count::last_line(sum(sum(carriers, turbos), dozen));
+    wrong_turn(
+        Way::Interleaver,
+        b"wrong on purpose, L of profiles 6 and 7 not turned, the sets that are",
+    );
+    wrong_turn(
+        Way::Deinterleaver,
+        b"wrong on purpose, M of profiles 6 and 7 not turned, the sets that are",
+    );
+    count::last_line(sum(sum(sum(carriers, turbos), spatials), fourteen));
 }

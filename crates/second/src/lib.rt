@@ -1,4 +1,4 @@
-// The second computation: whole lists from document 01's formulas, and for profile 5 from the standard's, with a division at each address. It knows
+// The second computation: whole lists from document 01's formulas, for profile 5 and for the third step of 6 and 7 from the standard's, with a division at each address. It knows
 // nothing of the walk, and promises nothing: a program holds the proved lists against it.
 pub mod num; // num.rt: arithmetic that never fails
 mod primes; // primes.rt: primes, the least primitive root, the next q
@@ -25,7 +25,28 @@ pub struct Whole {
 }
 
 fn rows(profile: u32) -> usize {
-    if profile == 1 { 12 } else { 16 }
+    match profile {
+        1 => 12,
+        6 => 13,
+        7 => 18,
+        _ => 16,
+    }
+}
+
+// r of IEEE 802.11n at 20 and at 40 MHz; 0 where no stream is turned.
+fn rotation(profile: u32) -> usize {
+    match profile {
+        6 => 11,
+        7 => 29,
+        _ => 0,
+    }
+}
+
+// ((2·(i - 1)) mod 3 + 3·((i - 1)/3))·r·bits for stream i.
+fn turn(set: Set) -> usize {
+    let i = minus(set.stream as usize, 1);
+    let c = plus(rest(times(2, i), 3), times(3, over(i, 3)));
+    times(times(c, rotation(set.profile)), set.bits as usize)
 }
 
 fn group(bits: u32) -> usize {
@@ -53,22 +74,23 @@ fn carrier_m(d: usize, n: usize, s: usize, k: usize) -> usize {
     plus(times(s, over(m, s)), rest(minus(plus(m, n), turn), s))
 }
 
-fn carrier(way: Way, set: Set, t: usize) -> usize {
+// The formulas of the two steps, and the third: M(k) less the turn, modulo N, and L at t and the turn, modulo N.
+fn carrier(way: Way, set: Set, turn: usize, t: usize) -> usize {
     let d = rows(set.profile);
     let s = group(set.bits);
     let n = set.n as usize;
     match way {
-        Way::Interleaver => carrier_l(d, n, s, t),
-        Way::Deinterleaver => carrier_m(d, n, s, t),
+        Way::Interleaver => carrier_l(d, n, s, rest(plus(t, turn), n)),
+        Way::Deinterleaver => rest(minus(plus(carrier_m(d, n, s, t), n), turn), n),
     }
 }
 
 // L or M of a carrier set.
-fn carrier_list(way: Way, set: Set, list: &mut [u16]) -> Whole {
+fn carrier_list(way: Way, set: Set, turn: usize, list: &mut [u16]) -> Whole {
     let n = set.n as usize;
     let mut t = 0;
     while t < n {
-        put(list, t, carrier(way, set, t));
+        put(list, t, carrier(way, set, turn, t));
         put(list, plus(ENDS, t), plus(t, 1));
         t += 1;
     }
@@ -135,5 +157,10 @@ pub fn list_of(way: Way, set: Set, list: &mut [u16]) -> Whole {
     if set.profile == 5 {
         return turbo_list(set, true, list);
     }
-    carrier_list(way, set, list)
+    carrier_list(way, set, turn(set), list)
+}
+
+// The list of an accepted set of carriers with no stream turned: wrong on purpose.
+pub fn unturned(way: Way, set: Set, list: &mut [u16]) -> Whole {
+    carrier_list(way, set, 0, list)
 }

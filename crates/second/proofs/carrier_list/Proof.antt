@@ -7,10 +7,10 @@ use Rattle.second.proofs.carrier_list.Statement.{statement}
 use Rattle.second.proofs.carrier_list.Tie as tie
 
 abbrev Inv-loop : tie.InvT-loop
-Inv-loop way set list₀ n t₀ list t = (t ≤ n) × (length list ≡ length list₀)
+Inv-loop way set turn list₀ n t₀ list t = (t ≤ n) × (length list ≡ length list₀)
 
 abbrev μ-loop : tie.MeasureT-loop
-μ-loop way set list₀ n t₀ list t = n - t
+μ-loop way set turn list₀ n t₀ list t = n - t
 
 pub carrier-list-spec : {M : Type 1} → statement M
 carrier-list-spec =
