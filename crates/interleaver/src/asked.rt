@@ -1,5 +1,7 @@
 // The numbers of a command. A word that is no number is told, and the command does nothing.
+use super::named;
 use super::told;
+use lines::among;
 use lines::word;
 use numbers::Number;
 use sets::Set;
@@ -20,30 +22,42 @@ fn wrong(name: &[u8], most: &[u8], got: &[u8]) {
     told::say(b"\n");
 }
 
-// The number that word i says, by its name.
-pub fn number(line: &[u8], i: usize, name: &[u8]) -> Number {
-    let n = numbers::read(word(line, i));
+// The number that some digits say, by its name; they stand in a word, which is told.
+pub fn read(digits: &[u8], name: &[u8], word: &[u8]) -> Number {
+    let n = numbers::read(digits);
     if let Number::Wrong = n {
-        wrong(name, b"4294967295", word(line, i));
+        wrong(name, b"4294967295", word);
     }
     n
 }
 
+// Word i of those that are not named.
+pub fn plain(line: &[u8], i: usize) -> &[u8] {
+    among(line, false, i)
+}
+
+// The number that it says, by its name.
+pub fn number(line: &[u8], i: usize, name: &[u8]) -> Number {
+    let w = plain(line, i);
+    read(w, name, w)
+}
+
 // The same, where it may not be above 255 or some other most, which `digits` spells.
 pub fn small_number(line: &[u8], i: usize, name: &[u8], most: u32, digits: &[u8]) -> Number {
-    let n = numbers::read(word(line, i));
+    let n = numbers::read(plain(line, i));
     if let Number::Value(v) = n {
         if v <= most {
             return n;
         }
     }
-    wrong(name, digits, word(line, i));
+    wrong(name, digits, plain(line, i));
     Number::Wrong
 }
 
-// PROFILE BITS N, from word 1 on.
+// PROFILE, which is word 1, BITS, N and the numbers that have names.
 pub fn set(line: &[u8]) -> SetAsked {
-    let Number::Value(profile) = number(line, 1, b"PROFILE") else {
+    let w = word(line, 1);
+    let Number::Value(profile) = read(w, b"PROFILE", w) else {
         return SetAsked::Wrong;
     };
     let Number::Value(bits) = number(line, 2, b"BITS") else {
@@ -52,5 +66,16 @@ pub fn set(line: &[u8]) -> SetAsked {
     let Number::Value(n) = number(line, 3, b"N") else {
         return SetAsked::Wrong;
     };
-    SetAsked::Given(Set { profile, bits, n })
+    if !named::all_known(line) {
+        return SetAsked::Wrong;
+    }
+    let Number::Value(stream) = named::number(line, b"stream", 1) else {
+        return SetAsked::Wrong;
+    };
+    SetAsked::Given(Set {
+        profile,
+        bits,
+        n,
+        stream,
+    })
 }

@@ -1,6 +1,7 @@
-// The command line: words and numbers in, the answers of the proved libraries out. The one loop here is over the
-// questions of the command `lines`; the others are in the crates below.
+// The command line: words and numbers in, the answers of the proved libraries out. The loops here are over the questions of the command `lines`
+// and over named words; the others are in the crates below.
 mod asked; // asked.rt: the numbers of a command
+mod named; // named.rt: those that have names
 mod told; // told.rt: help, and what was expected
 
 use asked::SetAsked;
@@ -10,6 +11,9 @@ use lines::word;
 use numbers::Number;
 use told::Command;
 use words::line::Line;
+
+// So many arguments that are not named are looked at, which is more than any command takes, but for the files of `combine`.
+const MOST: usize = 8;
 
 // What a question on a set answers.
 fn answer(c: Command, line: &[u8]) {
@@ -50,7 +54,7 @@ fn move_blocks(way: Way, line: &[u8]) {
     let SetAsked::Given(set) = asked::set(line) else {
         return;
     };
-    if word(line, 4).len() == 0 {
+    if asked::plain(line, 4).len() == 0 {
         filters::blocked::through(way, set, 1);
         return;
     }
@@ -84,9 +88,19 @@ fn fill_stream(way: Way, line: &[u8]) {
     filters::streamed::through(way, fill as u8);
 }
 
-// Receptions from files, added up.
-fn combine(line: &[u8]) {
-    if !receptions::in_form() {
+// Receptions from files, added up. The line is that of the arguments before the files and of the named words.
+fn combine() {
+    let mut room = [0u8; ROOM];
+    let n = words::arguments::join(&mut room, receptions::BEFORE);
+    combine_first(&room, n);
+}
+
+fn combine_first(room: &[u8; ROOM], n: usize) {
+    combine_by(lines::first(room, n));
+}
+
+fn combine_by(line: &[u8]) {
+    if !(told::in_form(Command::Combine, line) & receptions::in_form()) {
         told::usage(Command::Combine);
         return;
     }
@@ -148,6 +162,10 @@ fn answer_line(line: &[u8]) {
 // Does what the arguments say.
 fn obey(line: &[u8]) {
     let c = told::named(word(line, 0));
+    if let Command::Combine = c {
+        combine();
+        return;
+    }
     if !told::in_form(c, line) {
         told::usage(c);
         return;
@@ -157,7 +175,6 @@ fn obey(line: &[u8]) {
         Command::Interleave => move_blocks(Way::Interleaver, line),
         Command::Deinterleave => move_blocks(Way::Deinterleaver, line),
         Command::Dvb => move_stream(line),
-        Command::Combine => combine(line),
         _ => ask(c, line),
     }
 }
@@ -168,6 +185,6 @@ fn begin(room: &[u8; ROOM], n: usize) {
 
 fn main() {
     let mut room = [0u8; ROOM];
-    let n = words::arguments::join(&mut room);
+    let n = words::arguments::join(&mut room, MOST);
     begin(&room, n);
 }

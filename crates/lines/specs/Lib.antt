@@ -1,2 +1,3 @@
 pub mod Appended
+pub mod Named
 pub mod Words

@@ -40,6 +40,9 @@ fn title(set: Set) {
     say_number(b"<title>profile ", set.profile as u64);
     say_number(b", bits ", set.bits as u64);
     say_number(b", N ", set.n as u64);
+    if set.stream > 1 {
+        say_number(b", stream ", set.stream as u64);
+    }
     io::write_all(
         STDOUT_FILENO,
         b": input index across, output index down</title>\n",

@@ -1,4 +1,4 @@
-// What each profile admits, as a table. The sizes are those that the test of a set accepts, each size up to the longest list being tried,
+// What each profile admits, as a table. Sizes and streams are those that the test of a set accepts, each size up to the longest list being tried,
 // so the table cannot say anything else than the library does.
 use super::say;
 use super::say_number;
@@ -14,8 +14,13 @@ struct Row {
 }
 
 // The number of the refusal of a set, or 0.
-fn verdict(profile: u32, bits: u32, n: u32) -> u32 {
-    match sets::test(Set { profile, bits, n }) {
+fn verdict(profile: u32, bits: u32, n: u32, stream: u32) -> u32 {
+    match sets::test(Set {
+        profile,
+        bits,
+        n,
+        stream,
+    }) {
         Verdict::Refused(x) => x.number,
         Verdict::Accepted => 0,
     }
@@ -75,13 +80,41 @@ fn sizes(profile: u32, bits: u32) {
     let mut row = Row::none();
     let mut n = 1;
     while n <= 6144 {
-        if verdict(profile, bits, n) == 0 {
+        if verdict(profile, bits, n, 1) == 0 {
             row = row.with(n);
         }
         n += 1;
     }
     row.show();
     say(b"\n");
+}
+
+// The least size that is accepted.
+fn least(profile: u32, bits: u32) -> u32 {
+    let mut n = 1;
+    while n < 6144 && verdict(profile, bits, n, 1) > 0 {
+        n += 1;
+    }
+    n
+}
+
+// The last of the streams from 1 on that are accepted with a size. No more than nine are tried.
+fn last_stream(profile: u32, bits: u32, n: u32) -> u32 {
+    let mut last = 1;
+    while last < 9 && verdict(profile, bits, n, last + 1) == 0 {
+        last += 1;
+    }
+    last
+}
+
+// Their column.
+fn streams(last: u32) {
+    if last > 1 {
+        say_number(b"1 to ", last as u64);
+        say(b"   ");
+        return;
+    }
+    say(b"1        ");
 }
 
 // The columns before the sizes: the profile's number and name stand in its first line alone.
@@ -93,6 +126,7 @@ fn front(profile: u32, bits: u32, first: bool) {
     }
     say_number(b"", bits as u64);
     say(b"     ");
+    streams(last_stream(profile, bits, least(profile, bits)));
 }
 
 fn name(profile: u32) {
@@ -103,6 +137,8 @@ fn name(profile: u32) {
         3 => say(b"        IEEE 802.11a                 "),
         4 => say(b"        bench                        "),
         5 => say(b"        WCDMA turbo, 3GPP TS 25.212  "),
+        6 => say(b"        IEEE 802.11n, 20 MHz         "),
+        7 => say(b"        IEEE 802.11n, 40 MHz         "),
         _ => say(b"                                     "),
     }
 }
@@ -112,7 +148,7 @@ fn profile(p: u32) {
     let mut first = true;
     let mut bits = 1;
     while bits <= 8 {
-        if verdict(p, bits, 0) > 2 {
+        if verdict(p, bits, 0, 1) > 2 {
             front(p, bits, first);
             sizes(p, bits);
             first = false;
@@ -123,10 +159,10 @@ fn profile(p: u32) {
 
 // `profiles`.
 pub fn table() {
-    say(b"profile  standard                     bits  N\n");
+    say(b"profile  standard                     bits  streams  N\n");
     let mut p = 1;
     while p <= 9 {
-        if verdict(p, 0, 0) > 1 {
+        if verdict(p, 0, 0, 1) > 1 {
             profile(p);
         }
         p += 1;

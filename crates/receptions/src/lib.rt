@@ -5,7 +5,6 @@ use figures::VALUES;
 use figures::decimal::PLACES;
 use figures::decimal::spell_f32;
 use libc::STDOUT_FILENO;
-use lines::word;
 use sets::Set;
 use sets::Verdict;
 use tables::LARGE;
@@ -14,8 +13,8 @@ use words::text::ROOM;
 use words::text::put;
 use words::text::put_number;
 
-// The argument that names the first file: `combine` is argument 1.
-const FIRST: usize = 5;
+// The arguments before the files, but for named words: `combine`, PROFILE, BITS and N.
+pub const BEFORE: usize = 4;
 
 fn refused(number: u32) {
     words::text::say_line(STDOUT_FILENO, b"refused ", number as u64);
@@ -58,6 +57,30 @@ fn add_first(
     ))
 }
 
+// Whether argument i is a named word, which may stand among the files.
+fn is_beside(i: usize) -> bool {
+    let mut one = [0u8; 48];
+    let k = os::arg(i, &mut one);
+    lines::is_named(&one[..k])
+}
+
+// The first argument that names a file, or how many arguments there are where none does.
+fn first_file() -> usize {
+    let n = os::arg_count();
+    let mut before = 0;
+    let mut i = 1;
+    while i < n {
+        if !is_beside(i) {
+            if before >= BEFORE {
+                return i;
+            }
+            before += 1;
+        }
+        i += 1;
+    }
+    n
+}
+
 // Adds the file that argument i names.
 fn add_file(set: Set, i: usize, sums: &mut [f32], counts: &mut [u16]) -> bool {
     let mut received = [0.0f32; VALUES];
@@ -68,12 +91,20 @@ fn add_file(set: Set, i: usize, sums: &mut [f32], counts: &mut [u16]) -> bool {
     }
 }
 
+// The same, where argument i may be a named word.
+fn add_argument(set: Set, i: usize, sums: &mut [f32], counts: &mut [u16]) -> bool {
+    if is_beside(i) {
+        return true;
+    }
+    add_file(set, i, sums, counts)
+}
+
 // Adds file after file. Answers whether all were added.
 fn add_files(set: Set, sums: &mut [f32], counts: &mut [u16]) -> bool {
     let n = os::arg_count();
-    let mut i = FIRST;
+    let mut i = first_file();
     while i < n {
-        if !add_file(set, i, sums, counts) {
+        if !add_argument(set, i, sums, counts) {
             return false;
         }
         i += 1;
@@ -139,20 +170,9 @@ fn add_and_show(set: Set, sums: &mut [f32], counts: &mut [u16]) {
     }
 }
 
-fn has_one(s: &[u8]) -> bool {
-    (word(s, 0).len() > 0) & (word(s, 1).len() == 0)
-}
-
-// Whether argument i is one word.
-fn is_word(i: usize) -> bool {
-    let mut one = [0u8; 48];
-    let k = os::arg(i, &mut one);
-    has_one(&one[..k])
-}
-
-// Whether each word before the files is an argument of its own, and there is a file: then the files are the arguments from FIRST on.
+// Whether an argument names a file.
 pub fn in_form() -> bool {
-    (os::arg_count() > FIRST) & (is_word(1) & is_word(2) & (is_word(3) & is_word(4)))
+    first_file() < os::arg_count()
 }
 
 // `combine`, of the files that the arguments name.

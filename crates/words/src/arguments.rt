@@ -1,9 +1,15 @@
 // The program's arguments, as a line.
 use lines::ROOM;
 use lines::append;
-ghost use Prim.Native.Nat.{_≤_};
+use lines::is_named;
 ghost use Rattle.lines.specs.Appended.{Appended};
-ghost use Rattle.words.specs.Joined.{shown, WithArgument, Joined};
+ghost use Rattle.words.specs.Joined.{shown, Spaced, WithSome, WithArgument, Joined};
+
+// Where the line of some arguments ends, and how many of them are not named.
+struct Ends {
+    at: usize,
+    plain: usize,
+}
 
 // A line with a word after it. One that is empty is put as a question mark, which no command takes.
 fn with_word(room: &mut [u8; ROOM], from: usize, word: &[u8]) -> usize
@@ -15,33 +21,54 @@ fn with_word(room: &mut [u8; ROOM], from: usize, word: &[u8]) -> usize
     append(room, from, word)
 }
 
-// A line with argument i after it, and a space. One that is too long for any word of a command counts as empty.
-fn with_argument(room: &mut [u8; ROOM], from: usize, i: usize) -> usize
-    ensures { λ r. ⌜ WithArgument (now (room .entry)) from (now (room .exit)) r ⌝ }
+// The same, and a space.
+fn with_space(room: &mut [u8; ROOM], from: usize, word: &[u8]) -> usize
+    ensures { λ r. ⌜ Spaced (now (room .entry)) from (now (word .entry)) (now (room .exit)) r ⌝ }
 {
-    let mut one = [0u8; 48];
-    let k = os::arg(i, &mut one);
-    let at = with_word(room, from, &one[..k]);
+    let at = with_word(room, from, word);
     append(room, at, b" ")
 }
 
-fn up_to_nine(n: usize) -> usize
-    ensures { λ r. ⌜ r ≤ 9 ⌝ }
+// The same where the word is named, or fewer than `most` are not; else the line as it is.
+fn with_some(room: &mut [u8; ROOM], line: Ends, w: &[u8], most: usize) -> Ends
+    ensures { λ r. ⌜ WithSome (now (room .entry)) (line .at) (line .plain) most (now (w .entry)) (now (room .exit)) (r .at) (r .plain) ⌝ }
 {
-    if n < 9 { n } else { 9 }
+    let at = line.at;
+    let plain = line.plain;
+    if is_named(w) {
+        return Ends {
+            at: with_space(room, at, w),
+            plain,
+        };
+    }
+    if plain < most {
+        return Ends {
+            at: with_space(room, at, w),
+            plain: plain + 1,
+        };
+    }
+    Ends { at, plain }
 }
 
-// The arguments as a line, a space after each. Eight are looked at, which is more than any command takes but for the files of one that takes as many as
-// there are: whoever reads those asks for them.
-pub fn join(room: &mut [u8; ROOM]) -> usize
-    ensures { λ r. ⌜ Joined (now (room .entry)) (now (room .exit)) r ⌝ }
+// The same with argument i. One that is too long for any word of a command counts as empty.
+fn with_argument(room: &mut [u8; ROOM], line: Ends, i: usize, most: usize) -> Ends
+    ensures { λ r. ⌜ WithArgument (now (room .entry)) (line .at) (line .plain) most (now (room .exit)) (r .at) (r .plain) ⌝ }
 {
-    let n = up_to_nine(os::arg_count());
-    let mut at = 0;
+    let mut one = [0u8; 48];
+    let k = os::arg(i, &mut one);
+    with_some(room, line, &one[..k], most)
+}
+
+// The arguments as a line, a space after each: those that are named, and the first `most` of the others.
+pub fn join(room: &mut [u8; ROOM], most: usize) -> usize
+    ensures { λ r. ⌜ Joined (now (room .entry)) most (now (room .exit)) r ⌝ }
+{
+    let n = os::arg_count();
+    let mut line = Ends { at: 0, plain: 0 };
     let mut i = 1;
     while i < n {
-        at = with_argument(room, at, i);
+        line = with_argument(room, line, i, most);
         i += 1;
     }
-    at
+    line.at
 }

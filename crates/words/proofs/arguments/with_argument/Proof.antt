@@ -1,8 +1,7 @@
--- `words::arguments::with_argument`: the line with one argument more.
-use borrow.Author.Needs.{needs}
+-- `words::arguments::with_argument`: the same for some word of at most 48 bytes.
 use native.Mathlib.Omega.{arith}
 use lib.ListN.{take}
-use Rattle.words.specs.Joined.{with-argument}
+use borrow.Author.Needs.{needs}
 use Rattle.words.proofs.arguments.with_argument.Statement.{statement}
 use Rattle.words.proofs.arguments.with_argument.Tie as tie
 
@@ -15,22 +14,16 @@ arg-requires c κs = search needs
 array-share-prefix-one : tie.Need-array-share-prefix-one
 array-share-prefix-one c = search needs
 
-slice-aggregate-with-word : tie.Need-slice-aggregate-with-word
-slice-aggregate-with-word c = search needs
+slice-aggregate-with-some : tie.Need-slice-aggregate-with-some
+slice-aggregate-with-some c = search needs
 
-with-word-requires : tie.Need-with-word-requires
-with-word-requires c κs = search needs
-
-slice-aggregate-append : tie.Need-slice-aggregate-append
-slice-aggregate-append c = search needs
-
-append-requires : tie.Need-append-requires
-append-requires c κs = search needs
+with-some-requires : tie.Need-with-some-requires
+with-some-requires c κs = search needs
 
 returns : tie.Need-returns
 returns c =
-    let a = c .before .before .before .before .before .before .before .arg in
-    with-argument (take (a .result) (a .last .1 .0)) (omega (arith, a .ensures)) (c .before .before .before .with-word .ensures) (c .append .ensures)
+    let a = c .before .before .before .before .arg in
+    record { word = take (a .result) (a .last .1 .0); few = omega (arith, a .ensures); line = c .with-some .ensures }
 
 pub with-argument-spec : {M : Type 1} → statement M
 with-argument-spec =
@@ -39,8 +32,6 @@ with-argument-spec =
     slice-aggregate-arg
     arg-requires
     array-share-prefix-one
-    slice-aggregate-with-word
-    with-word-requires
-    slice-aggregate-append
-    append-requires
+    slice-aggregate-with-some
+    with-some-requires
     returns)
