@@ -6,7 +6,7 @@
      bench time ROW ROUNDS MS     prints ours/dividing and ours/stepping: the best of so many rounds, each of at least so many milliseconds */
 #include "bench.h"
 
-walk_call interleaver_walk_l;
+walk_call interleaver_walk_l, interleaver_walk_m;
 move_call interleaver_interleave_bytes, interleaver_interleave_soft;
 add_call interleaver_add_received;
 read_call interleaver_read_sum;
@@ -16,10 +16,13 @@ uint32_t interleaver_dvb_start(uint8_t *store, size_t, uint8_t fill, uint32_t *p
 static walk_call *const walks[][SIDES] = {
     [WALK] = {interleaver_walk_l, divide_walk, step_walk},
     [WRITTEN_OUT] = {interleaver_walk_l, divide_walk_written_out, step_walk_written_out},
+    [SPATIAL] = {interleaver_walk_l, divide_spatial, step_spatial},
+    [SPATIAL_M] = {interleaver_walk_m, divide_spatial_m, step_spatial_m},
 };
 static move_call *const moves[][SIDES] = {
     [BYTES] = {interleaver_interleave_bytes, divide_bytes, step_bytes},
     [SOFT] = {interleaver_interleave_soft, divide_soft, step_soft},
+    [SPATIAL_BYTES] = {interleaver_interleave_bytes, divide_spatial_bytes, step_spatial_bytes},
 };
 static feed_call *const feeds[][SIDES] = {
     [FEED] = {interleaver_dvb_interleave, divide_interleave, step_interleave},
@@ -29,11 +32,11 @@ static feed_call *const feeds[][SIDES] = {
 static add_call *const adds[SIDES] = {interleaver_add_received, divide_add, step_add};
 read_call *const reads[SIDES] = {interleaver_read_sum, plain_read, plain_read};
 
-struct set sets[32];
+struct set sets[64];
 static struct row rows[64];
 static uint32_t set_count, row_count, shown; /* the rows from `shown` on are compared, and are not in the table */
 
-static void add_set(uint32_t profile, uint32_t bits, uint32_t n) { sets[set_count++] = (struct set){profile, bits, n}; }
+static void add_set(uint32_t profile, uint32_t bits, uint32_t n, uint32_t stream) { sets[set_count++] = (struct set){profile, bits, n, stream}; }
 
 static void add_row(enum kind kind, uint32_t from, uint32_t count, uint32_t length, const char *name, const char *more)
 {
@@ -51,10 +54,10 @@ static void lay_out(void)
     static const uint8_t bits[] = {1, 2, 4, 6};
     for (int b = 0; b < 4; b++)
         for (uint32_t w = 1; w <= 16; w *= 2)
-            add_set(1, bits[b], 12 * bits[b] * w);
+            add_set(1, bits[b], 12 * bits[b] * w, 1);
     for (int b = 0; b < 4; b++)
-        add_set(3, bits[b], 48 * bits[b]);
-    add_set(5, 1, 5114);
+        add_set(3, bits[b], 48 * bits[b], 1);
+    add_set(5, 1, 5114, 1);
     enum { OFDM_2_384 = 9, OFDM_4_768 = 14, OFDM_6_1152 = 19, WLAN = 20, WLAN_1_48 = 20, WLAN_6_288 = 23, TURBO_5114 = 24 };
     for (uint32_t i = 0; i < TURBO_5114; i++)
         add_row(WALK, i, 1, 0, "walk", "");
@@ -77,12 +80,25 @@ static void lay_out(void)
     add_row(ADD, WLAN_6_288, 1, 0, "add", "");
     add_row(ADD, TURBO_5114, 1, 0, "add", "");
     add_row(READ, WLAN_6_288, 1, 0, "read", "");
+    for (uint32_t i = 0; i < 32; i++)
+        add_set(6 + i / 16, bits[i / 4 % 4], (i < 16 ? 52 : 108) * bits[i / 4 % 4], 1 + i % 4);
+    enum { HT = TURBO_5114 + 1, HT20_1_52_2 = HT + 1, HT40_6_648_1 = HT + 28, HT40_6_648_4 = HT + 31 };
+    add_row(SPATIAL, HT20_1_52_2, 1, 0, "walk", ", stream 2");
+    add_row(SPATIAL, HT40_6_648_1, 1, 0, "walk", ", stream 1");
+    add_row(SPATIAL, HT40_6_648_4, 1, 0, "walk", ", stream 4");
+    add_row(SPATIAL_M, HT40_6_648_4, 1, 0, "walk for M", ", stream 4");
+    add_row(SPATIAL_BYTES, HT20_1_52_2, 1, 0, "interleave bytes", ", stream 2");
+    add_row(SPATIAL_BYTES, HT40_6_648_4, 1, 0, "interleave bytes", ", stream 4");
     shown = row_count;
+    for (int i = 0; i < 4; i++)
+        add_row(i < 2 ? SPATIAL : SPATIAL_M, HT, 32, i % 2 * 7, i < 2 ? "walk, profiles 6 and 7" : "walk for M, profiles 6 and 7",
+                i % 2 == 0 ? "" : ", slices of 7");
+    add_row(SPATIAL_BYTES, HT, 32, 0, "interleave bytes, profiles 6 and 7", "");
     static const uint32_t full[] = {40, 200, 5040};
     for (int i = 0; i < 3; i++)
-        add_set(5, 1, full[i]);
-    add_row(WALK, TURBO_5114 + 1, 3, 0, "walk, full rectangles", "");
-    add_row(WALK, TURBO_5114 + 1, 3, 7, "walk, full rectangles", ", slices of 7");
+        add_set(5, 1, full[i], 1);
+    add_row(WALK, HT + 32, 3, 0, "walk, full rectangles", "");
+    add_row(WALK, HT + 32, 3, 7, "walk, full rectangles", ", slices of 7");
 }
 
 struct area areas[SIDES];
@@ -154,7 +170,7 @@ uint32_t once(const struct row *r, int side)
         return feeds[r->kind][side](a->record, a->store, STORE, input, r->length, a->bytes, r->length);
     uint32_t refused = 0;
     for (const struct set *s = sets + r->from; s < sets + r->from + r->sets && refused == 0; s++) {
-        if (r->kind == WALK || r->kind == WRITTEN_OUT)
+        if (r->kind <= SPATIAL_M)
             refused = walk_set(r, walks[r->kind][side], s, a);
         else if (r->kind == READ)
             refused = read_set(side, s, a);

@@ -1,51 +1,5 @@
 /* Walks and block moves in plain C, dividing and stepping: what a competent engineer writes from document 01 and change request 1. */
-#include "plain.h"
-
-static uint32_t least(uint32_t a, uint32_t b) { return a < b ? a : b; }
-
-static uint32_t group_of(const struct set *set) { return set->bits == 6 ? 3 : set->bits == 4 ? 2 : 1; }
-
-/* Carrier profiles: L(t), as the formula has it. */
-INLINE uint32_t carrier_l(uint32_t d, uint32_t s, uint32_t n, uint32_t t)
-{
-    uint32_t m = s * (t / s) + (t + d * t / n) % s;
-    return d * m - (n - 1) * (d * m / n);
-}
-
-INLINE uint32_t divide_carrier(uint32_t d, uint32_t s, uint32_t n, uint32_t cell, uint16_t *restrict out, size_t room)
-{
-    uint32_t count = least(n - cell, room);
-    for (uint32_t i = 0; i < count; i++)
-        out[i] = carrier_l(d, s, n, cell + i);
-    return count;
-}
-
-/* A row of the output at a time: base is the address without its turn, lift the turned place times d, low the place in a group of s. */
-INLINE uint32_t step_carrier(uint32_t d, uint32_t s, uint32_t n, uint32_t cell, uint16_t *restrict out, size_t room)
-{
-    uint32_t count = least(n - cell, room), c = n / d, group = d * s;
-    uint32_t row = cell / c, col = cell % c, low = col % s, base = d * (col - low) + row, lift = d * ((col + row) % s);
-    uint32_t first = d * (row % s); /* the lift that this row began with */
-    uint32_t i = 0;
-    while (i < count) {
-        uint32_t stop = least(count, i + c - col);
-        for (; i < stop; i++) {
-            out[i] = base + lift;
-            lift += d;
-            if (lift == group)
-                lift = 0;
-            if (++low == s) {
-                low = 0;
-                base += group;
-            }
-        }
-        col = low = 0;
-        base = ++row;
-        first = first + d == group ? 0 : first + d;
-        lift = first;
-    }
-    return count;
-}
+#include "plain_carrier.h"
 
 /* WCDMA: what a block is set up with. s is S, less 1 where C = p - 1; base is T(i) * C. A prime q has a divisor in common with p - 1 only
    where it divides it, and the list of primes begins with 7. */
@@ -160,14 +114,6 @@ INLINE uint32_t by_set(carrier_walk *walk, const struct set *set, uint32_t cell,
     }
 }
 
-INLINE uint32_t told(uint32_t from, uint32_t to, uint32_t count, uint32_t *cell, uint32_t *written, uint32_t *cells)
-{
-    *cell = to;
-    *written = count;
-    *cells = to - from;
-    return 0;
-}
-
 #define WALK(name, turbo, carrier) \
     uint32_t name(const struct set *set, uint32_t *cell, uint16_t *out, size_t room, uint32_t *written, uint32_t *cells) \
     { \
@@ -183,13 +129,7 @@ WALK(step_walk, step_turbo, by_profile(step_carrier, set, group_of(set), from, o
 WALK(divide_walk_written_out, divide_turbo, by_set(divide_carrier, set, from, out, room))
 WALK(step_walk_written_out, step_turbo, by_set(step_carrier, set, from, out, room))
 
-/* Block moves. size is 1 or 4, a constant where this is used; a memcpy of so many bytes is one load and one store. */
-INLINE void gather(const uint16_t *table, uint32_t n, size_t size, const uint8_t *restrict src, uint8_t *restrict dst)
-{
-    for (uint32_t t = 0; t < n; t++)
-        memcpy(dst + size * t, src + size * table[t], size);
-}
-
+/* Block moves. */
 INLINE void gather_carrier(uint32_t d, uint32_t s, uint32_t n, size_t size, const uint8_t *restrict src, uint8_t *restrict dst)
 {
     for (uint32_t t = 0; t < n; t++)

@@ -1,6 +1,6 @@
 /* What the two plain C's offer, in the same call shapes as the proved library: `divide_` works each address or byte out by document 01's
    formula, `step_` keeps counters. Neither tests its input, but where receptions are added up or read. `_written_out` is the same C with d
-   and s as constants of the compiler. */
+   and s as constants of the compiler; `_spatial` serves profiles 6 and 7, and the others do not. */
 #ifndef PLAIN_H
 #define PLAIN_H
 
@@ -30,15 +30,16 @@ void *memset(void *, int, size_t);
 
 #define INLINE static inline __attribute__((always_inline))
 
-struct set { uint32_t profile, bits, n; };
+struct set { uint32_t profile, bits, n, stream; };
 
 /* From *cell on, as far as there is room and cells; moves *cell on, and says how many addresses were written and cells examined. */
 typedef uint32_t walk_call(const struct set *, uint32_t *cell, uint16_t *out, size_t room, uint32_t *written, uint32_t *cells);
 walk_call divide_walk, divide_walk_written_out, step_walk, step_walk_written_out;
+walk_call divide_spatial, step_spatial, divide_spatial_m, step_spatial_m; /* for L, and for M */
 
 /* dst[t] = src[L(t)], of bytes or of f32. */
 typedef uint32_t move_call(const struct set *, const void *src, size_t, void *dst, size_t);
-move_call divide_bytes, divide_soft, step_bytes, step_soft;
+move_call divide_bytes, divide_soft, step_bytes, step_soft, divide_spatial_bytes, step_spatial_bytes;
 
 /* A received block added to what is stored, value t at L(t), with the tests of the library; and a position read, which takes no address. */
 typedef uint32_t add_call(const struct set *, const float *received, size_t, const uint8_t *present, size_t, float *sums, size_t, uint16_t *counts,

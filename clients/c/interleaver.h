@@ -1,6 +1,6 @@
 /* Interleavers for C: address lists, whole blocks of bytes and of floats, repeated receptions added up, the DVB byte stream.
 
-       interleaver_set set = {INTERLEAVER_WLAN, 4, 192};
+       interleaver_set set = interleaver_set_of(INTERLEAVER_WLAN, 4, 192);
        uint8_t in[192], out[192];
        ...
        if (interleaver_interleave_bytes(&set, in, 192, out, 192) != INTERLEAVER_DONE)
@@ -22,18 +22,31 @@
 extern "C" {
 #endif
 
-/* A parameter set. Any numbers may be given: each call tests them. */
+/* A parameter set. Any numbers may be given: each call tests them. One written as {3, 1, 48} has stream 0, and every call refuses it with 16. */
 typedef struct interleaver_set {
     uint32_t profile; /* see below */
     uint32_t bits;    /* bits per carrier: 1, 2, 4 or 6; profile 5: 1 */
     uint32_t n;       /* symbols of a block */
+    uint32_t stream;  /* spatial stream: 1 to 4 for profiles 6 and 7, 1 for every other */
 } interleaver_set;
+
+/* The set of stream 1. For another: set.stream = 4; */
+static inline interleaver_set interleaver_set_of(uint32_t profile, uint32_t bits, uint32_t n) {
+    interleaver_set set;
+    set.profile = profile;
+    set.bits = bits;
+    set.n = n;
+    set.stream = 1;
+    return set;
+}
 
 #define INTERLEAVER_OFDM 1u  /* IEEE 802.16 OFDM */
 #define INTERLEAVER_OFDMA 2u /* IEEE 802.16 OFDMA */
 #define INTERLEAVER_WLAN 3u  /* IEEE 802.11a */
 #define INTERLEAVER_BENCH 4u
 #define INTERLEAVER_WCDMA 5u /* 3GPP TS 25.212, turbo */
+#define INTERLEAVER_HT20 6u  /* IEEE 802.11n, 20 MHz */
+#define INTERLEAVER_HT40 7u  /* IEEE 802.11n, 40 MHz */
 
 #define INTERLEAVER_MAX_N 5114u         /* the largest n of any set */
 #define INTERLEAVER_DVB_STORE 1122u     /* bytes of a DVB machine's store */
@@ -41,7 +54,7 @@ typedef struct interleaver_set {
 #define INTERLEAVER_DVB_DELAY 2244u     /* an interleaver and a deinterleaver together are this many bytes late */
 
 #define INTERLEAVER_DONE 0u
-#define INTERLEAVER_PROFILE 1u   /* the profile isn't 1 to 5, or it is 5 and the call is the walk for M */
+#define INTERLEAVER_PROFILE 1u   /* the profile isn't 1 to 7, or it is 5 and the call is the walk for M */
 #define INTERLEAVER_BITS 2u      /* the bits aren't listed for the profile */
 #define INTERLEAVER_SIZE 3u      /* n isn't listed for that profile and those bits */
 #define INTERLEAVER_POSITION 4u  /* a position is n or more */
@@ -53,22 +66,23 @@ typedef struct interleaver_set {
 #define INTERLEAVER_FINITE 13u   /* a present value, a stored sum whose count isn't 0, or the sum of these two isn't finite */
 #define INTERLEAVER_PRESENCE 14u /* a presence byte is above 1 */
 #define INTERLEAVER_COUNT 15u    /* a count would pass 65,535 */
+#define INTERLEAVER_STREAM 16u   /* the stream isn't 1 to 4, or isn't 1 and the profile is neither 6 nor 7 */
 
-/* The test of a parameter set. Refusals 1, 2, 3. */
+/* The test of a parameter set. Refusals 1, 2, 3, 16. */
 uint32_t interleaver_test(const interleaver_set *set);
 
-/* One address: *address = L(t), or M(k). Refusals 1, 2, 3, 8, 4. */
+/* One address: *address = L(t), or M(k). Refusals 1, 2, 3, 16, 8, 4. */
 uint32_t interleaver_address_l(const interleaver_set *set, uint32_t t, uint32_t *address);
 uint32_t interleaver_address_m(const interleaver_set *set, uint32_t k, uint32_t *address);
 
 /* A walk: the addresses of L, or of M, from *cell on, until out is full or no cell is left; begin with *cell = 0, and hand *cell on, until
    *written is below out_len: then the walk is at its end. A cell is a place of the list, or for profile 5 of a rectangle, where some cells are padding
    and have no address. *written is how many addresses were written, *cells how many cells were passed. The rest of out
-   keeps what it held. Refusals of the walk for L 1, 2, 3, 8, 9; of the walk for M 1 (profile 5 too), 2, 3, 9. */
+   keeps what it held. Refusals of the walk for L 1, 2, 3, 16, 8, 9; of the walk for M 1 (profile 5 too), 2, 3, 16, 9. */
 uint32_t interleaver_walk_l(const interleaver_set *set, uint32_t *cell, uint16_t *out, size_t out_len, uint32_t *written, uint32_t *cells);
 uint32_t interleaver_walk_m(const interleaver_set *set, uint32_t *cell, uint16_t *out, size_t out_len, uint32_t *written, uint32_t *cells);
 
-/* A whole block from src into dst, both n long. No symbol is looked at; a float's 32 bits are copied. Refusals 1, 2, 3, 8, 5, 6. */
+/* A whole block from src into dst, both n long. No symbol is looked at; a float's 32 bits are copied. Refusals 1, 2, 3, 16, 8, 5, 6. */
 uint32_t interleaver_interleave_bytes(const interleaver_set *set, const uint8_t *src, size_t src_len, uint8_t *dst, size_t dst_len);
 uint32_t interleaver_deinterleave_bytes(const interleaver_set *set, const uint8_t *src, size_t src_len, uint8_t *dst, size_t dst_len);
 uint32_t interleaver_interleave_soft(const interleaver_set *set, const float *src, size_t src_len, float *dst, size_t dst_len);
@@ -84,14 +98,14 @@ uint32_t interleaver_deinterleave_symbols(const interleaver_set *set, uint32_t w
    is a blank. sums and counts, n of each, are by input index: value t goes to L(t). A blank changes nothing; the first present value is stored
    with its bits unchanged, count 1; a later one is added with one rounding, and the count rises by one. Zero is a value. Before a first block
    every count is 0, and the sums may hold anything. A sum is exact while its values are whole eighths whose magnitudes total at most 2,097,152.
-   Refusals 1, 2, 3, 8, 5, 6, 14, 13, 15, each decided over the whole block before the next. 13 looks at the sums where the block is blank too; it
+   Refusals 1, 2, 3, 16, 8, 5, 6, 14, 13, 15, each decided over the whole block before the next. 13 looks at the sums where the block is blank too; it
    looks neither at a blank's value nor at a sum whose count is 0. */
 uint32_t interleaver_add_received(const interleaver_set *set, const float *received, size_t received_len, const uint8_t *present,
                                   size_t present_len, float *sums, size_t sums_len, uint16_t *counts, size_t counts_len);
 
 /* One position, by input index: *sum and *count are what it holds. At a blank, *count is 0, and *sum keeps what it held. A sum that isn't finite is
    read as it is. A reading sets a walk up to have the set tested, some 700 to 6,000 instructions for profile 5; a program may as well look into its
-   own sums and counts. Refusals 1, 2, 3, 8, 4, 6. */
+   own sums and counts. Refusals 1, 2, 3, 16, 8, 4, 6. */
 uint32_t interleaver_read_sum(const interleaver_set *set, const float *sums, size_t sums_len, const uint16_t *counts, size_t counts_len,
                               uint32_t position, float *sum, uint16_t *count);
 

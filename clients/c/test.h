@@ -8,8 +8,8 @@
 #define EXPECT(ok) expect((ok), #ok, __FILE__, __LINE__)
 void expect(int ok, const char *what, const char *file, int line);
 
-/* sets of every profile that are accepted, and sets that are refused, each with its number */
-enum { SETS = 17, REFUSED = 12, MAX = INTERLEAVER_MAX_N };
+/* sets of every profile that are accepted, from SPATIAL on all of profiles 6 and 7, and sets that are refused, each with its number */
+enum { SETS = 49, SPATIAL = 17, REFUSED = 25, MAX = INTERLEAVER_MAX_N };
 extern const interleaver_set accepted[SETS];
 extern const struct refused_set {
     interleaver_set set;
@@ -22,6 +22,9 @@ uint32_t at_m(interleaver_set set, uint32_t k);
 
 uint8_t byte_of(uint32_t i); /* a byte for each place */
 int all_bytes(const uint8_t *p, size_t n, uint8_t x); /* whether n bytes are all x */
+int all_addresses(const uint16_t *p, size_t n, uint16_t x); /* the same of addresses */
+
+typedef uint32_t walk(const interleaver_set *, uint32_t *, uint16_t *, size_t, uint32_t *, uint32_t *);
 
 /* Receptions: what is stored, between guards, and a copy of it from before a call. A sum and a value are given by their bits, position k is an
    input index, place t an output index. */
@@ -62,6 +65,8 @@ void sums_refused(interleaver_set set, const uint16_t *l);
 void sums_of_refused_sets(void);
 
 void walks(void);
+void spatial(void);
+void order_of_refusals(void);
 void bytes(void);
 void floats(void);
 void symbols(void);

@@ -1,14 +1,6 @@
 /* The walks: whole, cut into parts, refused. */
 #include "test.h"
 
-static int all_addresses(const uint16_t *p, size_t n, uint16_t x) {
-    while (n > 0 && *p == x)
-        p++, n--;
-    return n == 0;
-}
-
-typedef uint32_t walk(const interleaver_set *, uint32_t *, uint16_t *, size_t, uint32_t *, uint32_t *);
-
 /* one walk of the whole set, into list; the cell total */
 static uint32_t whole(walk *go, interleaver_set set, uint16_t *list) {
     uint32_t cell = 0, written = 0, cells = 0, more = 7, none = 7;
@@ -42,7 +34,7 @@ void walks(void) {
     static const uint16_t first[] = {40, 30, 20, 10, 0, 36, 21, 17, 6};
     static uint16_t l[MAX + 1], m[MAX + 1];
     static const uint16_t last[] = {33, 31, 23, 15, 7};
-    const interleaver_set turbo = {INTERLEAVER_WCDMA, 1, 41}, full = {INTERLEAVER_WCDMA, 1, 40};
+    const interleaver_set turbo = interleaver_set_of(INTERLEAVER_WCDMA, 1, 41), full = interleaver_set_of(INTERLEAVER_WCDMA, 1, 40);
     uint32_t cell = 0, written = 0, cells = 0;
     unsigned i, k, wrong;
     for (i = 0; i < SETS; i++) {

@@ -14,6 +14,9 @@
 //! assert_eq!((sent[1], set.source(1)?), (16, 16));
 //! assert_eq!(received[..], input[..]);
 //! assert_eq!(set.interleave(&input, &mut sent[1..]), Err(Refusal::Output));
+//!
+//! let fourth = Set::new(7, 6, 648)?.with_stream(4); // IEEE 802.11n at 40 MHz, the fourth spatial stream
+//! assert_eq!((fourth.target(0)?, fourth.source(126)?), (126, 0));
 //! # Ok::<(), Refusal>(())
 //! ```
 //!
@@ -82,14 +85,15 @@ fn answer(number: u32) -> Result<(), Refusal> {
     }
 }
 
-/// A parameter set that was tested: a profile (1 IEEE 802.16 OFDM, 2 OFDMA, 3 IEEE 802.11a, 4 bench, 5 WCDMA turbo), bits per carrier, and the
-/// block's size N.
+/// A parameter set: a profile (1 IEEE 802.16 OFDM, 2 OFDMA, 3 IEEE 802.11a, 4 bench, 5 WCDMA turbo, 6 IEEE 802.11n at 20 MHz, 7 at 40 MHz), bits per
+/// carrier, the block's size N, and for profiles 6 and 7 a spatial stream from 1 to 4. Each call tests it.
 #[derive(Clone, Copy, Debug, PartialEq, Eq)]
 #[repr(C)]
 pub struct Set {
     profile: u32,
     bits: u32,
     n: u32,
+    stream: u32,
 }
 
 // One body for each of the block calls, which differ in a name, a type and whether a symbol's width is named.
@@ -104,11 +108,21 @@ macro_rules! block_call {
 }
 
 impl Set {
-    /// Tests a set.
+    /// The set of stream 1, tested.
     pub fn new(profile: u32, bits: u32, n: u32) -> Result<Set, Refusal> {
-        let set = Set { profile, bits, n };
-        // SAFETY: the set is three numbers in a row, as the call reads it.
-        answer(unsafe { raw::interleaver_test(&set) }).map(|()| set)
+        let set = Set { profile, bits, n, stream: 1 };
+        set.test().map(|()| set)
+    }
+
+    /// The same set of another stream. Any number may be given: [`Set::test`] and every other call refuse the set if it has no such stream.
+    pub fn with_stream(self, stream: u32) -> Self {
+        Set { stream, ..self }
+    }
+
+    /// Tests the set.
+    pub fn test(&self) -> Result<(), Refusal> {
+        // SAFETY: the set is four numbers in a row, as every call reads it.
+        answer(unsafe { raw::interleaver_test(self) })
     }
 
     /// N, the symbols of a block.

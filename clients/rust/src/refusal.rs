@@ -50,6 +50,7 @@ refusals! {
     13 Finite "a present value, a stored sum whose count isn't 0, or the sum of these two isn't finite"
     14 Presence "a presence byte is above 1"
     15 Count "a count would pass 65,535"
+    16 Stream "the stream isn't 1 to 4, or isn't 1 and the profile is neither 6 nor 7"
 }
 
 impl std::fmt::Display for Refusal {

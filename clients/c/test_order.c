@@ -1,0 +1,113 @@
+/* The order of refusals in every call on a set: those of the set, 1, 2, 3, 16, then the call's own. Nothing that is lent is changed. */
+#include "test.h"
+
+#define FAR 4294967295u
+enum { LONG = 648, WIDTH = 3 };
+static struct lent {
+    uint32_t address, cell, past, written, cells;
+    uint16_t list[LONG], count;
+    uint8_t bytes[WIDTH * LONG];
+    float soft[LONG], sum;
+} lent, before;
+static const uint8_t src[WIDTH * LONG];
+static const float soft[LONG];
+
+/* the set's number, or where the set is accepted that of the call's own fault */
+static uint32_t first(uint32_t number, uint32_t own) { return number != 0 ? number : own; }
+
+/* positions and cells that are past the end. The walk for M refuses profile 5 with 1 */
+static void places(interleaver_set set, uint32_t number) {
+    uint32_t back = set.profile == 5 ? 1 : first(number, INTERLEAVER_RECORD);
+    EXPECT(interleaver_test(&set) == number);
+    EXPECT(interleaver_address_l(&set, set.n, &lent.address) == first(number, INTERLEAVER_POSITION));
+    EXPECT(interleaver_address_m(&set, FAR, &lent.address) == first(number, INTERLEAVER_POSITION));
+    EXPECT(interleaver_walk_l(&set, &lent.past, lent.list, LONG, &lent.written, &lent.cells) == first(number, INTERLEAVER_RECORD));
+    EXPECT(interleaver_walk_m(&set, &lent.past, lent.list, LONG, &lent.written, &lent.cells) == back);
+}
+
+/* blocks whose input, or whose output, is one short */
+static void lengths(interleaver_set set, size_t n, uint32_t number) {
+    uint32_t five = first(number, INTERLEAVER_INPUT), six = first(number, INTERLEAVER_OUTPUT);
+    EXPECT(interleaver_interleave_bytes(&set, src, n - 1, lent.bytes, n) == five);
+    EXPECT(interleaver_interleave_bytes(&set, src, n, lent.bytes, n - 1) == six);
+    EXPECT(interleaver_deinterleave_bytes(&set, src, n - 1, lent.bytes, n) == five);
+    EXPECT(interleaver_deinterleave_bytes(&set, src, n, lent.bytes, n - 1) == six);
+    EXPECT(interleaver_interleave_soft(&set, soft, n - 1, lent.soft, n) == five);
+    EXPECT(interleaver_interleave_soft(&set, soft, n, lent.soft, n - 1) == six);
+    EXPECT(interleaver_deinterleave_soft(&set, soft, n - 1, lent.soft, n) == five);
+    EXPECT(interleaver_deinterleave_soft(&set, soft, n, lent.soft, n - 1) == six);
+    EXPECT(interleaver_interleave_symbols(&set, WIDTH, src, WIDTH * n - 1, lent.bytes, WIDTH * n) == five);
+    EXPECT(interleaver_interleave_symbols(&set, WIDTH, src, WIDTH * n, lent.bytes, WIDTH * n - 1) == six);
+    EXPECT(interleaver_deinterleave_symbols(&set, WIDTH, src, WIDTH * n - 1, lent.bytes, WIDTH * n) == five);
+    EXPECT(interleaver_deinterleave_symbols(&set, WIDTH, src, WIDTH * n, lent.bytes, WIDTH * n - 1) == six);
+}
+
+/* receptions of an accepted set's shape, one fault upon the other: 15, 13, 14, 6, 5; and readings */
+static void receptions(interleaver_set set, interleaver_set shape, uint32_t number) {
+    size_t n = shape.n, length[4] = {n, n, n, n};
+    all(shape, ONE, FULL, ONE, PRESENT);
+    EXPECT(add_with(set, length) == first(number, INTERLEAVER_COUNT) && same());
+    hear(1, QUIET, PRESENT);
+    EXPECT(add_with(set, length) == first(number, INTERLEAVER_FINITE) && same());
+    hear(2, ONE, 2);
+    EXPECT(add_with(set, length) == first(number, INTERLEAVER_PRESENCE) && same());
+    length[2] = n - 1;
+    EXPECT(add_with(set, length) == first(number, INTERLEAVER_OUTPUT) && same());
+    length[1] = n - 1;
+    EXPECT(add_with(set, length) == first(number, INTERLEAVER_INPUT) && same());
+    EXPECT(interleaver_read_sum(&set, now.sums, n, now.counts, n - 1, 0, &lent.sum, &lent.count) == first(number, INTERLEAVER_OUTPUT));
+    EXPECT(interleaver_read_sum(&set, now.sums, n, now.counts, n - 1, FAR, &lent.sum, &lent.count) == first(number, INTERLEAVER_POSITION));
+}
+
+/* a refused set in calls that have no other fault */
+static void alone(interleaver_set set, interleaver_set shape, uint32_t number) {
+    uint32_t back = set.profile == 5 ? 1 : number;
+    size_t n = shape.n, length[4] = {n, n, n, n};
+    EXPECT(interleaver_address_l(&set, 0, &lent.address) == number);
+    EXPECT(interleaver_address_m(&set, 0, &lent.address) == number);
+    EXPECT(interleaver_walk_l(&set, &lent.cell, lent.list, n, &lent.written, &lent.cells) == number);
+    EXPECT(interleaver_walk_m(&set, &lent.cell, lent.list, n, &lent.written, &lent.cells) == back);
+    EXPECT(interleaver_interleave_bytes(&set, src, n, lent.bytes, n) == number);
+    EXPECT(interleaver_deinterleave_bytes(&set, src, n, lent.bytes, n) == number);
+    EXPECT(interleaver_interleave_soft(&set, soft, n, lent.soft, n) == number);
+    EXPECT(interleaver_deinterleave_soft(&set, soft, n, lent.soft, n) == number);
+    EXPECT(interleaver_interleave_symbols(&set, WIDTH, src, WIDTH * n, lent.bytes, WIDTH * n) == number);
+    EXPECT(interleaver_deinterleave_symbols(&set, WIDTH, src, WIDTH * n, lent.bytes, WIDTH * n) == number);
+    all(shape, ONE, 1, ONE, PRESENT);
+    EXPECT(add_with(set, length) == number && same());
+    EXPECT(interleaver_read_sum(&set, now.sums, n, now.counts, n, 0, &lent.sum, &lent.count) == number);
+}
+
+static void every_call(interleaver_set set, interleaver_set shape, uint32_t number) {
+    memset(&lent, 0xa5, sizeof lent);
+    lent.cell = 0, lent.past = FAR;
+    memcpy(&before, &lent, sizeof lent);
+    places(set, number);
+    lengths(set, shape.n, number);
+    receptions(set, shape, number);
+    if (number != INTERLEAVER_DONE)
+        alone(set, shape, number);
+    EXPECT(memcmp(&lent, &before, sizeof lent) == 0);
+}
+
+void order_of_refusals(void) {
+    static const interleaver_set shapes[] = {{1, 6, 72, 1}, {2, 2, 96, 1}, {3, 4, 192, 1}, {4, 4, 64, 1}, {5, 1, 40, 1}, {6, 1, 52, 1},
+        {6, 4, 208, 2}, {7, 2, 216, 3}, {7, 6, 648, 4}};
+    static const uint32_t streams_tried[] = {2, 3, 4, 0, 5, 6, 257, 65537, 2147483649u, FAR};
+    unsigned i, j;
+    for (i = 0; i < sizeof shapes / sizeof shapes[0]; i++) {
+        interleaver_set shape = shapes[i];
+        every_call(shape, shape, INTERLEAVER_DONE);
+        for (j = 0; j < sizeof streams_tried / sizeof streams_tried[0]; j++) {
+            interleaver_set set = shape;
+            set.stream = streams_tried[j];
+            every_call(set, shape, j < 3 && shape.profile >= 6 ? INTERLEAVER_DONE : INTERLEAVER_STREAM);
+            set.n = 7;
+            every_call(set, shape, INTERLEAVER_SIZE);
+            set.bits = 3;
+            every_call(set, shape, INTERLEAVER_BITS);
+            set.profile = j % 2 == 0 ? 8 : 0;
+            every_call(set, shape, INTERLEAVER_PROFILE);
+        }
+    }
+}
