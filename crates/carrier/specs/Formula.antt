@@ -1,5 +1,5 @@
--- The carrier interleaver of IEEE 802.11a (data interleaving of the OFDM PHY: the first and the second permutation for i and j, and their inverse) and
--- of IEEE 802.16 (bit interleaving of the OFDM and OFDMA PHY, the same with d for 16), as document 01 writes it: M is (1) and (2), L is (3) and (4), which
+-- The carrier interleaver of IEEE 802.11a (data interleaving of the OFDM PHY: the first and the second permutation for i and j, and their inverse; 802.11n has the
+-- same two before its third, Third.antt) and of IEEE 802.16 (bit interleaving of the OFDM and OFDMA PHY, the same with d for 16), as document 01 writes it: M is (1) and (2), L is (3) and (4), which
 -- are source 000's numbers. k is a coded bit's index before the first permutation, N is N_CBPS, s is max(N_BPSC/2, 1). Over any d, N and s; / is whole
 -- division. These are definitions.
 use Prim.Native.Nat.{ℕ, _+_, _-_, _*_, _/_, _%_}

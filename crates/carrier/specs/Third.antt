@@ -1,6 +1,7 @@
 -- The third permutation of IEEE 802.11n (data interleaver of the HT PHY), the frequency rotation, after the two of Formula.antt: with j the index
 -- after the second, ((j - ((2·(i - 1)) mod 3 + 3·((i - 1)/3))·N_ROT·N_BPSCS) mod N_CBPSS. N is N_CBPSS, bits is N_BPSCS, r is N_ROT, which is 11
--- at 20 MHz and 29 at 40 MHz, and i is i_SS, the spatial stream, from 1 on. Over any of these numbers; / is whole division. These are definitions.
+-- at 20 MHz and 29 at 40 MHz, and i is i_SS, the spatial stream, from 1 on. (Of the first two steps d is N_COL, N/d is N_ROW, and s is
+-- max(N_BPSCS/2, 1).) Over any of these numbers; / is whole division. These are definitions.
 use Prim.Native.Nat.{ℕ, _+_, _-_, _*_, _/_, _%_}
 use mathlib.Core.Bool.{false}
 use Rattle.laws.specs.Walk.{Rule}

@@ -1,8 +1,8 @@
 -- What the pieces of a turned walk make up: of L, those on either side of the seam, which is the cell N - v; of M, the walk and the pass that takes
 -- the turn off. Rests on Turned.
 use Prim.Native.Nat.{ℕ, min, _+_, _-_, _%_, _≤_, _<_}
-use mathlib.Core.List.{List, [], _++_, append-assoc, append-nil}
-use mathlib.Core.Path.{_≡_, refl, sym, ap, ap₂, _∙_}
+use mathlib.Core.List.{List, _++_, append-assoc, append-nil}
+use mathlib.Core.Path.{_≡_, sym, ap, ap₂, _∙_}
 use native.Mathlib.Nat.{zero-add}
 use native.Mathlib.Omega.{arith}
 use lib.ListN.{length, getD, take, drop, length-drop, length-append}

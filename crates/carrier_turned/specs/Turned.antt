@@ -1,8 +1,8 @@
 -- The walks of a spatial stream over how far it is turned: what they write on either side of the seam, and that the turn of its numbers makes them
 -- the walks of its rule. Rests on Third and Turned of crate carrier.
-use Prim.Native.Nat.{ℕ, min, _+_, _-_, _*_, _%_, _≤_, _<_}
+use Prim.Native.Nat.{ℕ, _+_, _-_, _*_, _%_, _≤_, _<_}
 use mathlib.Core.List.{List, _++_}
-use mathlib.Core.Path.{_≡_, refl, sym, ap, _∙_}
+use mathlib.Core.Path.{_≡_, sym, ap, _∙_}
 use native.Mathlib.Nat.{mod-eq-of-lt, add-mod-right, le-of-lt}
 use native.Mathlib.Omega.{arith}
 use lib.ListN.{length, getD, drop}

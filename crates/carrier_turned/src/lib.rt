@@ -10,7 +10,6 @@ ghost use Prim.Native.Nat.{ℕ, _+_, _-_, _%_, _<_};
 ghost use Rattle.laws.specs.Fill.{Filled};
 ghost use Rattle.laws.specs.Lanes.{Ran};
 ghost use Rattle.laws.specs.Walk.{LeafOf, SingleOf, back};
-ghost use Rattle.carrier.specs.Block.{Block};
 ghost use Rattle.carrier_turned.specs.Turned.{turnedL, turnedM, Within, turnBy, ruleBy, Spatial, TakenOff, off};
 
 // A block of a spatial stream: d, N and s of the two steps, and bits, r and the stream of the third.

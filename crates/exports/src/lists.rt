@@ -61,7 +61,7 @@ pub extern "C" fn interleaver_walk_l(
     lent::lists::walk_on(Way::Interleaver, set, cell, out, written, cells)
 }
 
-// The walk for M. Refusals 1, also for profile 5, 2, 3, 9.
+// The walk for M. Refusals 1, also for profile 5, 2, 3, 16, 9.
 #[no_mangle]
 pub extern "C" fn interleaver_walk_m(
     set: &[u32; SET],

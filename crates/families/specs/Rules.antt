@@ -13,7 +13,7 @@ use Rattle.sizes.specs.declared.Family.{Family}
 use Rattle.sizes.specs.declared.Family.the-variants.{Carrier, Spatial, Turbo}
 use Rattle.sets.specs.Set.{familyOf, isTurbo, rowsOf, rotationOf, groupOf}
 use Rattle.sets.specs.Verdict.{verdictOf}
-use Rattle.sets.specs.Carried.{spatial-profile, carried, stream-in, turbo-size}
+use Rattle.sets.specs.Carried.{carried, stream-in, turbo-size}
 use Rattle.carrier.specs.Formula.{carrierL, carrierM, carrierRule}
 use Rattle.carrier.specs.Once.{carrier-lawful}
 use Rattle.carrier.specs.Third.{turn, spatialL, spatialM, spatialRule}
@@ -81,10 +81,10 @@ pub lawful-way : (way : Way) (s : Set) → verdictOf s ≡ done tt → Lawful (s
 lawful-way way s e = lawful-in (lawful s e) way
 
 -- of a spatial profile: the rule, by d and r ..
-pub spatial-is : (s : Set) (d r : ℕ) → 5 < s .profile → (rowsOf s ≡ d) × (rotationOf s ≡ r)
+pub spatial-is : (s : Set) (d r : ℕ) → familyOf s ≡ Spatial → (rowsOf s ≡ d) × (rotationOf s ≡ r)
     → ruleOf s ≡ spatialRule d (s .n) (groupOf s) (s .bits) r (s .stream)
 spatial-is s d r h e =
-    rule-is s (spatial-profile s h) ∙ ap₂ (λ (d r : ℕ). spatialRule d (s .n) (groupOf s) (s .bits) r (s .stream)) (e .0) (e .1)
+    rule-is s h ∙ ap₂ (λ (d r : ℕ). spatialRule d (s .n) (groupOf s) (s .bits) r (s .stream)) (e .0) (e .1)
 
 -- .. and of stream 1 L and M are those of the two steps
 module _ (s : Set) (e : verdictOf s ≡ done tt) (q : familyOf s ≡ Spatial) where

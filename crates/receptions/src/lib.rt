@@ -9,6 +9,7 @@ use sets::Set;
 use sets::Verdict;
 use tables::LARGE;
 use tables::Moved;
+use words::arguments::LONGEST;
 use words::text::ROOM;
 use words::text::put;
 use words::text::put_number;
@@ -59,7 +60,7 @@ fn add_first(
 
 // Whether argument i is a named word, which may stand among the files.
 fn is_beside(i: usize) -> bool {
-    let mut one = [0u8; 48];
+    let mut one = [0u8; LONGEST];
     let k = os::arg(i, &mut one);
     lines::is_named(&one[..k])
 }

@@ -1,5 +1,5 @@
-// The second computation: whole lists from document 01's formulas, for profile 5 and for the third step of 6 and 7 from the standard's, with a division at each address. It knows
-// nothing of the walk, and promises nothing: a program holds the proved lists against it.
+// The second computation: whole lists from document 01's formulas, for profile 5 and for the third step of 6 and 7 from the standard's, with a
+// division at each address. It knows nothing of the walk, and promises nothing: a program holds the proved lists against it.
 pub mod num; // num.rt: arithmetic that never fails
 mod primes; // primes.rt: primes, the least primitive root, the next q
 mod turbo; // turbo.rt: the rectangle of profile 5

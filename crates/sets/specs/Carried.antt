@@ -5,7 +5,7 @@ use mathlib.Core.Path.{_≡_, refl, sym, ap, _∙_}
 use mathlib.Core.Bool.{Bool, true, false, not, _&&_, true≢false, false≢true}
 use mathlib.Core.Logic.{⊎-elim}
 use mathlib.Core.List.{_++_, List·Memᴰ, append-nil, Memᴰ·of-map}
-use Prim.Native.Nat.{ℕ, _*_, _/_, _%_, _≤_, _<_}
+use Prim.Native.Nat.{_*_, _/_, _%_, _≤_, _<_}
 use native.Mathlib.Nat.{div-add-mod}
 use native.Mathlib.Omega.{arith}
 use lib.Dec.{leb, ltb, eqb}
@@ -68,29 +68,10 @@ carried-by s e =
       below = ltb-true _ (s .n) (u .1);
     }
 
--- the family by the profile's number: 1 to 4, 5, 6 and 7
-pub carrier-profile : (s : Set) → s .profile < 5 → familyOf s ≡ Carrier
-unfolding familyOf
-carrier-profile s h =
-    families-apart _ _ (entered-is (λ q. s .profile < 5 → familyTag (q .family) ≡ 0) (s .profile) (omega arith) h)
-
+-- profile 5 is the turbo family
 pub five-turbo : (s : Set) → s .profile ≡ 5 → familyOf s ≡ Turbo
 unfolding familyOf
 five-turbo s e = families-apart _ _ (entered-is (λ q. s .profile ≡ 5 → familyTag (q .family) ≡ 2) (s .profile) (omega arith) e)
-
-pub spatial-profile : (s : Set) → 5 < s .profile → familyOf s ≡ Spatial
-unfolding familyOf
-spatial-profile s h =
-    families-apart _ _ (entered-is (λ q. 5 < s .profile → familyTag (q .family) ≡ 1) (s .profile) (omega arith) h)
-
--- d and r of 6 and of 7
-pub numbers-ht20 : (s : Set) → s .profile ≡ 6 → (rowsOf s ≡ 13) × (rotationOf s ≡ 11)
-unfolding numbersOf
-numbers-ht20 s e = entered-is (λ q. s .profile ≡ 6 → (q .numbers .d ≡ 13) × (q .numbers .r ≡ 11)) (s .profile) (omega arith) e
-
-pub numbers-ht40 : (s : Set) → s .profile ≡ 7 → (rowsOf s ≡ 18) × (rotationOf s ≡ 29)
-unfolding numbersOf
-numbers-ht40 s e = entered-is (λ q. s .profile ≡ 7 → (q .numbers .d ≡ 18) × (q .numbers .r ≡ 29)) (s .profile) (omega arith) e
 
 -- and no other profile is the turbo family
 pub turbo-five : (s : Set) → familyOf s ≡ Turbo → s .profile ≡ 5

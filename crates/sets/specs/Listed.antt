@@ -1,6 +1,6 @@
 -- The listed sets: every listed size with every stream of its profile, counted out; and that exactly these are accepted, where no sentence of what
 -- a set must have beside them holds.
-use Prim.Native.Nat.{ℕ, _+_, _*_, _≤_}
+use Prim.Native.Nat.{ℕ, _+_, _*_}
 use mathlib.Core.Bool.{Bool, true}
 use mathlib.Core.List.{List, [], _∷_, _++_, map, List·Memᴰ, List·Memᴰ·head, List·Memᴰ·tail, List·Memᴰ·not-nil, List·Memᴰ·cases-cons}
 use mathlib.Core.List.{List·Memᴰ·append-cases, Memᴰ·append-left, Memᴰ·append-right, Memᴰ·map, Memᴰ·of-map, Memᴰ·cast}
@@ -14,18 +14,16 @@ use borrow.Author.Tests.{leb-true, le-leb, eqb-true}
 use Rattle.laws.specs.Outcome.{done}
 use Rattle.laws.specs.Told.{NoneTrue}
 use Rattle.laws.specs.Run.{run, run-mem, mem-run, length-run}
-use Rattle.laws.specs.Members.{both, every, at-each}
+use Rattle.laws.specs.Members.{both, at-each}
 use Rattle.sizes.specs.declared.Size.{Size}
 use Rattle.sizes.specs.Size.{size, Row, Entry, inRows, sizesOf, in-all, of-all}
 use Rattle.sizes.specs.Profiles.{profiles, listedSizes, inTable, entryBy, numbersBy}
-use Rattle.sizes.specs.Profiles.{ofdm, ofdma, wlan, bench, turbo, spatials}
-use Rattle.sizes.specs.Listed as sizes
 use Rattle.sets.specs.declared.Set.{Set}
 use Rattle.sets.specs.Set.{sizeOf, numbersOf}
 use Rattle.sets.specs.Stream.{streamListed}
 use Rattle.sets.specs.Beside.{besideSentences}
 use Rattle.sets.specs.Verdict.{verdictOf}
-use Rattle.sets.specs.Admits.{Passed, passed-accepted}
+use Rattle.sets.specs.Admits.{passed-accepted}
 
 -- a size with a stream, and sizes with each of some streams
 abbrev pub streamed : Size → ℕ → Size × ℕ
@@ -126,31 +124,12 @@ module _ (s : Set) where
     λ e. let p = passed-accepted s .1 e in (in-listed (p .size-listed) (p .stream-passes), p .beside-none),
   )
 
--- how many there are
+-- how many there are: sizes, times streams
 length-with : (zs : List Size) (is : List ℕ) → length (withStreams zs is) ≡ length zs * length is
 length-with [] is = sym (zero-mul (length is))
 length-with (z ∷ zs) is =
     length-append (map (streamed z) is) (withStreams zs is) ∙ omega (arith, length-map is (streamed z), length-with zs is)
 
--- sizes, times streams: 32 for the two profiles of four streams
 pub sets-of : (q : Entry) {n i : ℕ} → length (sizesOf q) ≡ n → q .numbers .streams ≡ i → length (setsOf q) ≡ n * i
 sets-of q e f =
     length-with (sizesOf q) (run (λ i. i) 1 (q .numbers .streams)) ∙ ap₂ _*_ e (length-run (λ i. i) 1 (q .numbers .streams) ∙ f)
-
-pub record Counts : Type 0 where
-  pub ofdm-has : length (setsOf ofdm) ≡ 20
-  pub ofdma-has : length (setsOf ofdma) ≡ 11
-  pub wlan-has : length (setsOf wlan) ≡ 4
-  pub bench-has : length (setsOf bench) ≡ 272
-  pub turbo-has : length (setsOf turbo) ≡ 5075
-  pub spatials-have : length (allSets spatials) ≡ 32
-
-pub counts : Counts
-counts = record {
-  ofdm-has = sets-of ofdm (sizes.counts .ofdm-has) refl;
-  ofdma-has = sets-of ofdma (sizes.counts .ofdma-has) refl;
-  wlan-has = sets-of wlan (sizes.counts .wlan-has) refl;
-  bench-has = sets-of bench (sizes.counts .bench-has) refl;
-  turbo-has = sets-of turbo (sizes.counts .turbo-has) refl;
-  spatials-have = refl;
-}

@@ -5,10 +5,8 @@ use mathlib.Core.Bool.{true}
 use mathlib.Core.List.{List, [], _∷_, _++_, List·Memᴰ}
 use mathlib.Core.Logic.{_↔_}
 use mathlib.Core.Path.{_≡_, sym, ap, _∙_}
-use lib.Dec.{leb}
-use borrow.Author.Tests.{leb-true, le-leb}
+use borrow.Author.Tests.{le-leb}
 use Rattle.laws.specs.Outcome.{refused}
-use Rattle.laws.specs.Members.{both}
 use Rattle.laws.specs.Sentences.{Sentence, sentence, FirstTrue, Told, none, said-exactly}
 use Rattle.laws.specs.Told.{told-under, told-unless, told-join}
 use Rattle.sets.specs.declared.Set.{Set}

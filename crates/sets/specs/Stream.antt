@@ -9,7 +9,7 @@ use borrow.Author.Tests.{leb-true, le-leb, eqb-true}
 use Rattle.laws.specs.Outcome.{Line, line}
 use Rattle.laws.specs.Sentences.{Sentence, sentence, Told, none}
 use Rattle.laws.specs.Told.{told-unless}
-use Rattle.laws.specs.Members.{both, every, at-each, oneOf, one-of}
+use Rattle.laws.specs.Members.{both, at-each, oneOf, one-of}
 use Rattle.sizes.specs.Size.{Entry}
 use Rattle.sizes.specs.Profiles.{profiles, lastProfile, manyStreams, numbersBy}
 use Rattle.sizes.specs.Entered.{in-profiles, own-number, entered-is}

@@ -28,7 +28,7 @@ pub enum Verdict {
 }
 
 // The family of a set's profile.
-pub fn family_of(set: Set) -> Family
+fn family_of(set: Set) -> Family
     ensures { λ r. ⌜ r ≡ familyOf set ⌝ }
 {
     sizes::family_by(set.profile)

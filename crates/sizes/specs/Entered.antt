@@ -2,12 +2,12 @@
 -- entry has, below the first what the first has, past the last what the last has. And that this is what the entry of the number has.
 use mathlib.Core.Path.{_≡_, refl, sym, ap, ap₂, subst, _∙_}
 use mathlib.Core.Bool.{Bool, true, false, cond}
-use mathlib.Core.Logic.{⊎-elim}
-use mathlib.Core.List.{List, [], _∷_, List·Memᴰ, List·Memᴰ·head, List·Memᴰ·tail, List·Memᴰ·cases-cons}
-use Prim.Native.Nat.{ℕ, _+_, _≤_, _<_}
+use mathlib.Core.Logic.{_⊎_, inl, inr, ⊎-elim}
+use mathlib.Core.List.{List, [], _∷_, List·Memᴰ, List·Memᴰ·head, List·Memᴰ·tail, List·Memᴰ·cases-cons, Memᴰ·cast}
+use Prim.Native.Nat.{ℕ, _≤_, _<_}
 use native.Mathlib.Omega.{arith}
 use lib.Dec.{ltb, eqb}
-use borrow.Author.Tests.{eqb-true, ltb-true, ltb-false, le-ltb}
+use borrow.Author.Tests.{eqb-true, ne-eqb, ltb-true, ltb-false}
 use Rattle.laws.specs.Outcome.{apart}
 use Rattle.laws.specs.Run.{run, run-mem}
 use Rattle.laws.specs.Members.{All, every, at-each, by-member}
@@ -20,7 +20,7 @@ use Rattle.sizes.specs.declared.Form.the-variants.{Only, Doubled, Multip
 use Rattle.sizes.specs.declared.Numbers.{Numbers}
 use Rattle.sizes.specs.declared.Admitted.{Admitted}
 use Rattle.sizes.specs.Size.{Entry, numbers, admitted}
-use Rattle.sizes.specs.Profiles.{profiles, lastProfile, reached, inTable, entryBy, familyBy, numbersBy, admittedBy}
+use Rattle.sizes.specs.Profiles.{ofdm, profiles, lastProfile, among, ends, inTable, entryBy, familyBy, numbersBy, admittedBy}
 
 -- families, bits and forms as numbers
 abbrev pub familyTag : Family → ℕ
@@ -64,19 +64,20 @@ abbrev pub AdmittedEntered : ℕ → Admitted → Type 0
 AdmittedEntered p a = AsEntered (λ q. SameAdmitted a (q .admitted)) p
 
 -- so it is the entry of the number that has it
-module _ (p : ℕ) where
-  -- past the number of every entry the last is reached
-  past : (m : ℕ) (q : Entry) (xs : List Entry) → All (λ x. (x .number ≤ p) × (x .number ≤ m)) xs → reached m q xs ≡ reached p q xs
-  past m q [] h = refl
-  past m q (x ∷ xs) h = rw (le-ltb p (x .number) (h .0 .0), le-ltb m (x .number) (h .0 .1)) (past m x xs (h .1))
+module _ (p : ℕ) (z : Entry) where
+  -- past every number it is z
+  past : (xs : List Entry) → All (λ x. x .number < p) xs → z ≡ among p z xs
+  past [] h = refl
+  past (x ∷ xs) h = rw (ne-eqb p (x .number) (λ e. omega (arith, h .0))) (past xs (h .1))
 
-  one-of-them : (q : Entry) (xs : List Entry) → List·Memᴰ (reached p q xs) (q ∷ xs)
-  one-of-them q [] = List·Memᴰ·head refl
-  one-of-them q (x ∷ xs) = go (ltb p (x .number)) (one-of-them x xs)
+  one-of-them : (xs : List Entry) → List·Memᴰ (among p z xs) (z ∷ xs)
+  one-of-them [] = List·Memᴰ·head refl
+  one-of-them (x ∷ xs) = go (eqb p (x .number)) (List·Memᴰ·cases-cons (one-of-them xs))
     where
-      go : (b : Bool) → List·Memᴰ (reached p x xs) (x ∷ xs) → List·Memᴰ (cond b q (reached p x xs)) (q ∷ x ∷ xs)
-      go true m = List·Memᴰ·head refl
-      go false m = List·Memᴰ·tail m
+      go : (b : Bool) → (among p z xs ≡ z) ⊎ List·Memᴰ (among p z xs) xs → List·Memᴰ (cond b x (among p z xs)) (z ∷ x ∷ xs)
+      go true m = List·Memᴰ·tail (List·Memᴰ·head refl)
+      go false (inl e) = List·Memᴰ·head e
+      go false (inr m) = List·Memᴰ·tail (List·Memᴰ·tail m)
 
 -- the numbers are 1 to the last
 numbered : every (λ p. eqb p (inTable p .number)) (run (λ j. j) 1 lastProfile) ≡ true
@@ -87,9 +88,17 @@ unfolding entryBy
 own-number p lo hi =
     eqb-true p _ (at-each (λ p. eqb p (inTable p .number)) (run (λ j. j) 1 lastProfile) numbered (run-mem (λ j. j) 1 lastProfile p lo (omega arith)))
 
+-- each is one of the table's
 pub in-profiles : (p : ℕ) → List·Memᴰ (entryBy p) profiles
 unfolding entryBy
-in-profiles p = ⊎-elim (λ e. List·Memᴰ·head e) (λ m. m) (List·Memᴰ·cases-cons (one-of-them p _ profiles))
+in-profiles p = ⊎-elim (λ e. Memᴰ·cast e (end (eqb p 0))) (λ m. m) (List·Memᴰ·cases-cons (one-of-them p (ends p) profiles))
+  where
+    named : (k : ℕ) → List·Memᴰ (among k ofdm profiles) profiles
+    named k = ⊎-elim (λ e. List·Memᴰ·head e) (λ m. m) (List·Memᴰ·cases-cons (one-of-them k ofdm profiles))
+
+    end : (b : Bool) → List·Memᴰ (cond b (among 1 ofdm profiles) (among lastProfile ofdm profiles)) profiles
+    end true = named 1
+    end false = named lastProfile
 
 -- what holds of the entries by their numbers holds of the entry of every number
 pub entered-is : (Same : Entry → Type 0) (p : ℕ) → AsEntered Same p → Same (entryBy p)
@@ -100,7 +109,8 @@ entered-is Same p h = go (ltb 0 p) refl (ltb lastProfile p) refl
     go false e b o = let z : p ≡ 0 = omega (arith, ltb-false 0 p e) in subst (λ (x : ℕ). Same (inTable x)) (sym z) (h .1 .0 z)
     go true e true o =
         let l = ltb-true lastProfile p o in
-        subst Same (past p lastProfile _ profiles (omega arith)) (h .1 .1 l)
+        let z : ends p ≡ inTable lastProfile = rw (ne-eqb p 0 (λ e. omega arith)) in
+        subst Same (sym z ∙ past p (ends p) profiles (omega arith)) (h .1 .1 l)
     go true e false o =
         by-member (λ q. p ≡ q .number → Same q) profiles (h .0) (in-profiles p)
         (own-number p (ltb-true 0 p e) (ltb-false lastProfile p o))

@@ -1,4 +1,4 @@
--- The tests of a size agree with the table as it is counted out, entry by entry; how many sizes each profile has; and what the code's
+-- The tests of a size agree with the table as it is counted out, entry by entry; how many sizes the turbo profile has; and what the code's
 -- proofs need of the tests. Rests on Profiles and Entered. That an entry is counted out as its form has it is computed, for the turbo entry
 -- shown; no profile of carriers is named.
 use mathlib.Core.Path.{_≡_, refl, sym, ap, ap₂, subst, _∙_}
@@ -19,8 +19,8 @@ use Rattle.sizes.specs.declared.Bits.the-variants as kinds
 use Rattle.sizes.specs.declared.Form.{Form}
 use Rattle.sizes.specs.declared.Form.the-variants.{Only, Doubled, Multiple, Grouped, Range}
 use Rattle.sizes.specs.declared.Admitted.{Admitted}
-use Rattle.sizes.specs.Size.{size, some, Row, Entry, multiples, sizesOf, allSizes}
-use Rattle.sizes.specs.Profiles.{ofdm, ofdma, wlan, bench, turboSizes, turbo, ht20, ht40, carriers, turbos, spatials, profiles, entryBy, admittedBy}
+use Rattle.sizes.specs.Size.{size, some, Row, Entry, multiples, sizesOf}
+use Rattle.sizes.specs.Profiles.{turboSizes, turbo, carriers, turbos, spatials, profiles, entryBy, admittedBy}
 use Rattle.sizes.specs.Profiles.{groupBy, profileListed, bitsOf, bitsIn, bitsListed, doubles, sizeIn, sizeBy, sizeListed}
 use Rattle.sizes.specs.Entered.{in-profiles}
 
@@ -167,21 +167,10 @@ all-listed =
 pub entry-listed : (p : ℕ) → Agrees (entryBy p)
 entry-listed p = by-member Agrees profiles all-listed (in-profiles p)
 
--- how many sizes each profile has
-pub record Counts : Type 0 where
-  pub ofdm-has : length (sizesOf ofdm) ≡ 20
-  pub ofdma-has : length (sizesOf ofdma) ≡ 11
-  pub wlan-has : length (sizesOf wlan) ≡ 4
-  pub bench-has : length (sizesOf bench) ≡ 272
-  pub turbo-has : length (sizesOf turbo) ≡ 5075
-  pub spatials-have : length (allSizes spatials) ≡ 8
-
-length-turbo : length (sizesOf turbo) ≡ 5075
+-- how many sizes the turbo profile has, which is too many to compute
+pub length-turbo : length (sizesOf turbo) ≡ 5075
 unfolding turboSizes
 length-turbo = ap length (append-nil (map (size 5 1) turboSizes)) ∙ length-map turboSizes (size 5 1) ∙ length-run (λ j. 40 + j) 0 5075
-
-pub counts : Counts
-counts = record { ofdm-has = refl; ofdma-has = refl; wlan-has = refl; bench-has = refl; turbo-has = length-turbo; spatials-have = refl }
 
 -- the bits that are listed are among 1, 2, 4, 6
 bits-among : (z : Size) → bitsListed z ≡ true → List·Memᴰ (z .bits) (bitsOf kinds.Each)

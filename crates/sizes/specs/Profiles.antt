@@ -1,10 +1,11 @@
 -- The profiles: what each is in numbers, and what it admits, counted out with no remainder taken anywhere: document 01's table "Profiles and what
 -- each admits", and change request 4's profiles 6 and 7. Then the tests of a size, which the numbers make. specs/Listed.antt shows that the
--- tests and the count agree. A further profile of a family stands here and in src/profiles.rt, and nowhere else.
+-- tests and the count agree. What is proved of a further profile of carriers, of one stream or of several, needs its lines here and in
+-- src/profiles.rt, and no others.
 use mathlib.Core.Bool.{Bool, cond, _&&_}
 use mathlib.Core.List.{List, [], _∷_, _++_}
 use Prim.Native.Nat.{ℕ, _+_, _*_}
-use lib.Dec.{leb, ltb, eqb}
+use lib.Dec.{leb, eqb}
 use Rattle.laws.specs.Run.{run}
 use Rattle.laws.specs.Members.{oneOf, multiple}
 use Rattle.sizes.specs.declared.Size.{Size}
@@ -100,7 +101,7 @@ ht40 = record {
   rows = row 1 (108 ∷ []) ∷ row 2 (216 ∷ []) ∷ row 4 (432 ∷ []) ∷ row 6 (648 ∷ []) ∷ [];
 }
 
--- the profiles, by family, in the order of their numbers
+-- the profiles, by family
 abbrev pub carriers : List Entry
 carriers = ofdm ∷ ofdma ∷ wlan ∷ bench ∷ []
 
@@ -124,13 +125,16 @@ manyStreams = 6 ∷ 7 ∷ []
 unfoldable pub listedSizes : List Size
 listedSizes = allSizes profiles
 
--- the entry of a number: the last of the table whose number it reaches. (So of 0 the first and of more than the last the last; it is not read)
-abbrev pub reached : ℕ → Entry → List Entry → Entry
-reached p q [] = q
-reached p q (x ∷ xs) = cond (ltb p (x .number)) q (reached p x xs)
+-- the entry of a number. (Of 0 it is that of 1, and past the last number that of the last; neither is read, since 1 is said first)
+abbrev pub among : ℕ → Entry → List Entry → Entry
+among p z [] = z
+among p z (q ∷ qs) = cond (eqb p (q .number)) q (among p z qs)
+
+abbrev pub ends : ℕ → Entry
+ends p = cond (eqb p 0) (among 1 ofdm profiles) (among lastProfile ofdm profiles)
 
 abbrev pub inTable : ℕ → Entry
-inTable p = reached p ofdm profiles
+inTable p = among p (ends p) profiles
 
 unfoldable pub entryBy : ℕ → Entry
 entryBy p = inTable p

@@ -1,5 +1,6 @@
-// The profiles, question by question: which family, which numbers, what is admitted. Every test of a profile's number is here. A further profile of
-// a family stands here and in specs/Profiles.antt, and nowhere else. The promises are arithmetic, so that it needs no line of proof.
+// The profiles, question by question: which family, which numbers, what is admitted. Every test of a profile's number is here. What is proved of a
+// further profile of carriers, of one stream or of several, needs its lines here and in specs/Profiles.antt, and no others: the promises are
+// arithmetic. The two functions of numbers are tables, a branch for each profile.
 use super::Admitted;
 use super::Bits;
 use super::Family;

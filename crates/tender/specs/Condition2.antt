@@ -3,7 +3,7 @@
 -- over the definitions that the public contracts cite; its proof is a citation. (Symbols of a width are in Symbols.antt, the stream in Stream.antt.)
 use Prim.Native.Nat.{ℕ, _*_, _≤_, _<_}
 use mathlib.Core.List.{List, List·Memᴰ, map}
-use mathlib.Core.Logic.{_↔_, _≢_}
+use mathlib.Core.Logic.{_↔_, _≢_, _⊎_, inl, inr}
 use mathlib.Core.Path.{_≡_, refl, ap}
 use native.Mathlib.Omega.{arith}
 use lib.ListN.{length, getD}
@@ -14,13 +14,17 @@ use Rattle.laws.specs.Perm.{Perm}
 use Rattle.laws.specs.Told.{NoneTrue}
 use Rattle.laws.specs.Walk.{Rule}
 use Rattle.sets.specs.declared.Set.{Set}
-use Rattle.sets.specs.Set.{rowsOf, rotationOf, groupOf}
-use Rattle.sizes.specs.Profiles.{ofdm, ofdma, wlan, bench, turbo, spatials}
-use Rattle.sets.specs.Listed.{entryOf, setsOf, allSets, listedSets, counts}
+use Rattle.sets.specs.Set.{familyOf, numbersOf, rowsOf, rotationOf, groupOf}
+use Rattle.sizes.specs.Profiles.{ofdm, ofdma, wlan, bench, turbo, ht20, ht40, familyBy}
+use Rattle.sizes.specs.declared.Family.{Family}
+use Rattle.sizes.specs.declared.Family.the-variants.{Carrier, Spatial}
+use Rattle.sizes.specs.Entered.{familyTag, AsEntered, entered-is, families-apart}
+use Rattle.sizes.specs.Listed.{length-turbo}
+use Rattle.sets.specs.Listed.{entryOf, setsOf, listedSets, sets-of}
 use Rattle.sets.specs.Beside.{besideSentences}
 use Rattle.sets.specs.Verdict.{verdictOf}
 use Rattle.sets.specs.Listed as admitted
-use Rattle.sets.specs.Carried.{carrier-profile, five-turbo, spatial-profile, numbers-ht20, numbers-ht40}
+use Rattle.sets.specs.Carried.{five-turbo}
 use Rattle.carrier.specs.Formula.{carrierL, carrierM}
 use Rattle.carrier.specs.Once.{carrier-once}
 use Rattle.carrier.specs.Third.{turn, spatialL, spatialM}
@@ -45,10 +49,10 @@ Listed s = List·Memᴰ (entryOf s) listedSets × NoneTrue (besideSentences s)
 pub admits : (s : Set) → Listed s ↔ (verdictOf s ≡ done tt)
 admits s = admitted.admits s
 
--- .. has 20, 11, 4, 272 and 5,075 sets for profiles 1 to 5, and 32 for 6 and 7, which is four streams for each of eight sizes
+-- .. has 20, 11, 4, 272 and 5,075 sets for profiles 1 to 5, and 16 each for 6 and 7, which is four streams for each of eight sizes, 32 entries
 pub listed-counts : (length (setsOf ofdm) ≡ 20) × (length (setsOf ofdma) ≡ 11) × (length (setsOf wlan) ≡ 4) × (length (setsOf bench) ≡ 272)
-    × (length (setsOf turbo) ≡ 5075) × (length (allSets spatials) ≡ 32)
-listed-counts = (counts .ofdm-has, counts .ofdma-has, counts .wlan-has, counts .bench-has, counts .turbo-has, counts .spatials-have)
+    × (length (setsOf turbo) ≡ 5075) × (length (setsOf ht20) ≡ 16) × (length (setsOf ht40) ≡ 16)
+listed-counts = (refl, refl, refl, refl, sets-of turbo length-turbo refl, refl, refl)
 
 -- and accepted means served: of a listed set a walk is done from every cell up to the total, with any room (for M, profile 5 apart) ..
 pub served-walk : (way : Way) (w : Walk) (room : ℕ) → Listed (w .set) → (way ≡ Deinterleaver → w .set .profile ≢ 5) → w .cell ≤ ruleIn way (w .set) .total
@@ -70,6 +74,18 @@ L s = rules.L s
 abbrev pub M : Set → ℕ → ℕ
 M s = rules.M s
 
+-- (the family of a profile, by its number)
+family-is : (s : Set) (f : Family) → familyTag (familyBy (s .profile)) ≡ familyTag f → familyOf s ≡ f
+unfolding familyOf
+family-is s f e = families-apart (familyBy (s .profile)) f e
+
+pub carrier-profile : (s : Set) → s .profile < 5 → familyOf s ≡ Carrier
+carrier-profile s h = family-is s Carrier (entered-is (λ q. s .profile < 5 → familyTag (q .family) ≡ 0) (s .profile) (omega arith) h)
+
+pub spatial-profile : (s : Set) → (s .profile ≡ 6) ⊎ (s .profile ≡ 7) → familyOf s ≡ Spatial
+spatial-profile s (inl e) = family-is s Spatial (entered-is (λ q. s .profile ≡ 6 → familyTag (q .family) ≡ 1) (s .profile) (omega arith) e)
+spatial-profile s (inr e) = family-is s Spatial (entered-is (λ q. s .profile ≡ 7 → familyTag (q .family) ≡ 1) (s .profile) (omega arith) e)
+
 -- they are the carrier formulas for profiles 1 to 4 ..
 pub formulas-carrier : (s : Set) → s .profile < 5 → (L s ≡ carrierL (rowsOf s) (s .n) (groupOf s)) × (M s ≡ carrierM (rowsOf s) (s .n) (groupOf s))
 formulas-carrier s h =
@@ -82,22 +98,28 @@ formulas-turbo s e =
     let q = rule-is s (five-turbo s e) in
     (ap (λ (r : Rule). r .l) q, ap (λ (r : Rule). r .m) q)
 
+-- (d and r of a profile, as the table has them)
+numbered : (s : Set) (p d r : ℕ) → AsEntered (λ q. s .profile ≡ p → (q .numbers .d ≡ d) × (q .numbers .r ≡ r)) (s .profile)
+    → s .profile ≡ p → (rowsOf s ≡ d) × (rotationOf s ≡ r)
+unfolding numbersOf
+numbered s p d r h e = entered-is (λ q. s .profile ≡ p → (q .numbers .d ≡ d) × (q .numbers .r ≡ r)) (s .profile) h e
+
 -- .. and for profiles 6 and 7 the three steps of IEEE 802.11n, with d 13 and r 11 at 20 MHz ..
 pub formulas-ht20 : (s : Set) → s .profile ≡ 6
     → (L s ≡ spatialL 13 (s .n) (groupOf s) (s .bits) 11 (s .stream)) × (M s ≡ spatialM 13 (s .n) (groupOf s) (s .bits) 11 (s .stream))
 formulas-ht20 s e =
-    let q = spatial-is s 13 11 (omega arith) (numbers-ht20 s e) in
+    let q = spatial-is s 13 11 (spatial-profile s (inl e)) (numbered s 6 13 11 (omega arith) e) in
     (ap (λ (r : Rule). r .l) q, ap (λ (r : Rule). r .m) q)
 
 -- .. and d 18 and r 29 at 40 MHz
 pub formulas-ht40 : (s : Set) → s .profile ≡ 7
     → (L s ≡ spatialL 18 (s .n) (groupOf s) (s .bits) 29 (s .stream)) × (M s ≡ spatialM 18 (s .n) (groupOf s) (s .bits) 29 (s .stream))
 formulas-ht40 s e =
-    let q = spatial-is s 18 29 (omega arith) (numbers-ht40 s e) in
+    let q = spatial-is s 18 29 (spatial-profile s (inr e)) (numbered s 7 18 29 (omega arith) e) in
     (ap (λ (r : Rule). r .l) q, ap (λ (r : Rule). r .m) q)
 
 -- whose turn is below N, so that nothing is taken from 0, and of stream 1 leaves the two steps as they are
-module _ (s : Set) (l : Listed s) (h : 5 < s .profile) where
+module _ (s : Set) (l : Listed s) (h : (s .profile ≡ 6) ⊎ (s .profile ≡ 7)) where
   pub turned-below : turn (s .bits) (rotationOf s) (s .stream) < s .n
   turned-below = rules.turned-below s (admits s .0 l) (spatial-profile s h)
 

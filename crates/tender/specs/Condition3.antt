@@ -3,7 +3,7 @@
 -- Stream.antt.)
 use Prim.Native.Nat.{ℕ, min, _+_, _-_, _≤_, _<_}
 use mathlib.Core.List.{List, []}
-use mathlib.Core.Logic.{_≢_}
+use mathlib.Core.Logic.{_⊎_}
 use mathlib.Core.Path.{_≡_, refl, ap}
 use lib.ListN.{length, take}
 use Rattle.laws.specs.declared.Way.{Way}
@@ -17,7 +17,7 @@ use Rattle.laws.specs.Pieces as pieces
 use Rattle.laws.specs.Walk.{Rule}
 use Rattle.sets.specs.declared.Set.{Set}
 use Rattle.sets.specs.Set.{rowsOf, rotationOf, groupOf}
-use Rattle.sets.specs.Carried.{carrier-profile, five-turbo, spatial-profile}
+use Rattle.sets.specs.Carried.{five-turbo}
 use Rattle.carrier.specs.Formula.{carrierL, carrierM}
 use Rattle.carrier.specs.Third.{spatialL, spatialM}
 use Rattle.wcdma_shape.specs.Rectangle.{cells}
@@ -28,7 +28,7 @@ use Rattle.walks.specs.Answer.{Values, walkedOf, walkList, walkCells, walkPaddi
 use Rattle.walks.specs.Whole.{behind, walk-l-is, walk-m-is}
 use Rattle.walks.specs.Calls.{Call, Handed, joined, ended, examined, rooms}
 use Rattle.walks.specs.Calls as calls
-use Rattle.tender.specs.Condition2.{Listed, admits, L, M}
+use Rattle.tender.specs.Condition2.{Listed, admits, L, M, carrier-profile, spatial-profile}
 
 -- any list of calls, the accepted ones handing the record on, refused ones of either way and with any record between: the joined list, the end and
 -- the cells are those of one walk with all their room
@@ -55,7 +55,7 @@ rule-turbo s p =
     (ap (λ (r : Rule). r .total) e, ap (λ (r : Rule). r .address) e)
 
 -- .. profiles 6 and 7: N cells, and the address of a cell is that of the three steps ..
-pub rule-spatial : (s : Set) → 5 < s .profile
+pub rule-spatial : (s : Set) → (s .profile ≡ 6) ⊎ (s .profile ≡ 7)
     → (ruleIn Interleaver s .total ≡ s .n)
     × (ruleIn Interleaver s .address ≡ spatialL (rowsOf s) (s .n) (groupOf s) (s .bits) (rotationOf s) (s .stream))
 rule-spatial s h =
@@ -68,7 +68,7 @@ pub rule-back : (s : Set) → s .profile < 5
 rule-back s h = (refl, ap (λ (r : Rule). r .m) (rule-is s (carrier-profile s h)))
 
 -- .. and 6 and 7
-pub rule-back-spatial : (s : Set) → 5 < s .profile
+pub rule-back-spatial : (s : Set) → (s .profile ≡ 6) ⊎ (s .profile ≡ 7)
     → (ruleIn Deinterleaver s .total ≡ s .n)
     × (ruleIn Deinterleaver s .address ≡ spatialM (rowsOf s) (s .n) (groupOf s) (s .bits) (rotationOf s) (s .stream))
 rule-back-spatial s h = (refl, ap (λ (r : Rule). r .m) (rule-is s (spatial-profile s h)))

@@ -5,6 +5,9 @@ use lines::is_named;
 ghost use Rattle.lines.specs.Appended.{Appended};
 ghost use Rattle.words.specs.Joined.{shown, Spaced, WithSome, WithArgument, Joined};
 
+// A word of a command has at most so many bytes; a longer argument counts as empty.
+pub const LONGEST: usize = 48;
+
 // Where the line of some arguments ends, and how many of them are not named.
 struct Ends {
     at: usize,
@@ -50,11 +53,11 @@ fn with_some(room: &mut [u8; ROOM], line: Ends, w: &[u8], most: usize) -> Ends
     Ends { at, plain }
 }
 
-// The same with argument i. One that is too long for any word of a command counts as empty.
+// The same with argument i.
 fn with_argument(room: &mut [u8; ROOM], line: Ends, i: usize, most: usize) -> Ends
     ensures { λ r. ⌜ WithArgument (now (room .entry)) (line .at) (line .plain) most (now (room .exit)) (r .at) (r .plain) ⌝ }
 {
-    let mut one = [0u8; 48];
+    let mut one = [0u8; LONGEST];
     let k = os::arg(i, &mut one);
     with_some(room, line, &one[..k], most)
 }

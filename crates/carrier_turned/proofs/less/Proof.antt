@@ -1,5 +1,4 @@
 -- `carrier_turned::less` is an address less the turn, modulo N.
-use mathlib.Core.Path.{_∙_}
 use native.Mathlib.Omega.{arith}
 use borrow.Author.Needs.{needs}
 use Rattle.carrier_turned.specs.Turned.{off-up, off-down}

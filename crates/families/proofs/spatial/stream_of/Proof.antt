@@ -2,7 +2,6 @@
 use mathlib.Core.Path.{ap₂}
 use Prim.Native.Nat.{ℕ}
 use Rattle.sizes.specs.declared.Numbers.{Numbers}
-use Rattle.carrier_turned.specs.declared.Stream.{Stream}
 use borrow.Author.Needs.{needs}
 use Rattle.families.proofs.spatial.stream_of.Statement.{statement}
 use Rattle.families.proofs.spatial.stream_of.Tie as tie

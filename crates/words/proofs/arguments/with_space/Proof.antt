@@ -3,10 +3,6 @@ use Rattle.words.specs.Joined.{with-space}
 use borrow.Author.Needs.{needs}
 use Rattle.words.proofs.arguments.with_space.Statement.{statement}
 use Rattle.words.proofs.arguments.with_space.Tie as tie
-use Rattle.words.proofs.arguments.with_space.Reads as reads
-use Rattle.words.proofs.arguments.with_space.Lts as lts
-use Rattle.lines.proofs.append.Reads as append-reads
-use Rattle.words.proofs.arguments.with_word.Reads as with-word-reads
 
 with-word-requires : tie.Need-with-word-requires
 with-word-requires c κs = search needs

@@ -3,8 +3,8 @@ use Prim.Native.Nat.{_≤_, _-_}
 use mathlib.Core.Path.{_≡_}
 use lib.ListN.{length}
 use borrow.Author.Needs.{needs}
-use Rattle.compare.proofs.walk_each.Statement.{statement}
-use Rattle.compare.proofs.walk_each.Tie as tie
+use Rattle.compare.proofs.lists.walk_each.Statement.{statement}
+use Rattle.compare.proofs.lists.walk_each.Tie as tie
 
 abbrev Inv-loop : tie.InvT-loop
 Inv-loop way choice size made list₀ slice₀ n c₀ i₀ list slice c i = (i ≤ n) × ((length list ≡ length list₀) × (length slice ≡ length slice₀))
