@@ -13,7 +13,7 @@ use Rattle.laws.specs.Told.{NoneTrue, told-clear, clear-join, clear-parts}
 use Rattle.laws.specs.Members.{both, at-each, by-member}
 use Rattle.sets.specs.declared.Set.{Set}
 use Rattle.sizes.specs.declared.Size.{Size}
-use Rattle.sizes.specs.Size.{size, some, some-of, Entry, sizesOf, in-rows, in-all, of-all}
+use Rattle.sizes.specs.Size.{size, some, some-of, Entry, sizesOf, in-rows, in-gathered, of-gathered}
 use Rattle.sets.specs.Set.{sizeOf}
 use Rattle.sizes.specs.Profiles.{profiles, listedSizes, lastProfile, entryBy, profileListed, bitsIn, bitsListed, sizeBy, sizeListed}
 use Rattle.sizes.specs.Listed.{HasEach, Agrees, all-listed, entry-listed}
@@ -58,7 +58,7 @@ module _ (z : Size) (p : profileListed z ≡ true) (b : bitsListed z ≡ true) w
   in-table {m} i =
       let r = profile-range z p in
       subst (λ (p : ℕ). List·Memᴰ (size p (z .bits) m) listedSizes) (sym (own-number (z .profile) (r .0) (r .1)))
-      (in-all profiles (in-profiles (z .profile)) i)
+      (in-gathered sizesOf profiles (in-profiles (z .profile)) i)
 
   -- for listed bits of a listed profile some size is listed
   pub some-listed : (m : ℕ) × List·Memᴰ (size (z .profile) (z .bits) m) listedSizes
@@ -79,7 +79,7 @@ pub record Passing (z : Size) : Type 0 where
 pub listed-passing : (z : Size) → List·Memᴰ z listedSizes → Passing z
 unfolding listedSizes
 listed-passing z m =
-    let q = of-all profiles m in
+    let q = of-gathered sizesOf profiles m in
     let p = both (profileListed z) (bitsListed z && sizeListed z) (by-member Agrees profiles all-listed (q .1) .passing (q .2)) in
     let b = both (bitsListed z) (sizeListed z) (p .1) in
     record { profile-passes = p .0; bits-pass = b .0; size-passes = b .1 }

@@ -35,7 +35,7 @@ fn family_of(set: Set) -> Family
 }
 
 // Whether the family is the turbo interleaver's, and whether it is that of spatial streams. (Two questions of two answers each, since the compiler
-// makes one comparison of each, and of a match on three families a table.)
+// makes one comparison of each, and some ten instructions of a match on three families.)
 pub fn is_turbo(set: Set) -> bool
     ensures { λ r. ⌜ r ≡ isTurbo (familyOf set) ⌝ }
 {

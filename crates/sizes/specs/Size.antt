@@ -52,45 +52,43 @@ pub some-of : (ns : List ℕ) → some ns ≡ true → (n : ℕ) × List·Memᴰ
 some-of [] e = absurd (false≢true e)
 some-of (n ∷ ns) e = (n, List·Memᴰ·head refl)
 
--- the sizes of rows, of a profile, of profiles
-abbrev pub inRows : ℕ → List Row → List Size
-inRows p [] = []
-inRows p (r ∷ rs) = map (size p (r .bits)) (r .sizes) ++ inRows p rs
+-- what each entry of a list gives, one after the other; and what stands there
+module _ {A B : Type 0} (f : A → List B) where
+  abbrev pub gathered : List A → List B
+  gathered [] = []
+  gathered (x ∷ xs) = f x ++ gathered xs
+
+  pub in-gathered : (xs : List A) {x : A} {y : B} → List·Memᴰ x xs → List·Memᴰ y (f x) → List·Memᴰ y (gathered xs)
+  in-gathered [] m h = absurd (List·Memᴰ·not-nil m)
+  in-gathered (z ∷ xs) {x} {y} m h = ⊎-elim here (λ l. Memᴰ·append-right (f z) (in-gathered xs l h)) (List·Memᴰ·cases-cons m)
+    where
+      here : x ≡ z → List·Memᴰ y (gathered (z ∷ xs))
+      here e = rw (← e) (Memᴰ·append-left (gathered xs) h)
+
+  pub of-gathered : (xs : List A) {y : B} → List·Memᴰ y (gathered xs) → (x : A) × List·Memᴰ x xs × List·Memᴰ y (f x)
+  of-gathered [] m = absurd (List·Memᴰ·not-nil m)
+  of-gathered (z ∷ xs) m =
+      ⊎-elim (λ h. (z, List·Memᴰ·head refl, h)) (λ h. let r = of-gathered xs h in (r .0, List·Memᴰ·tail (r .1), r .2))
+      (List·Memᴰ·append-cases (f z) m)
+
+-- the sizes of a row, of a profile, of profiles
+abbrev pub inRow : ℕ → Row → List Size
+inRow p r = map (size p (r .bits)) (r .sizes)
 
 abbrev pub sizesOf : Entry → List Size
-sizesOf q = inRows (q .number) (q .rows)
+sizesOf q = gathered (inRow (q .number)) (q .rows)
 
 abbrev pub allSizes : List Entry → List Size
-allSizes [] = []
-allSizes (q ∷ qs) = sizesOf q ++ allSizes qs
+allSizes qs = gathered sizesOf qs
 
--- what stands in a row stands in the profile, and what stands in a profile stands in the table ..
+-- what stands in a row stands in the profile
 pub in-rows : (p : ℕ) (rs : List Row) {r : Row} {n : ℕ}
-    → List·Memᴰ r rs → List·Memᴰ n (r .sizes) → List·Memᴰ (size p (r .bits) n) (inRows p rs)
-in-rows p [] m h = absurd (List·Memᴰ·not-nil m)
-in-rows p (q ∷ rs) {r} {n} m h =
-    ⊎-elim here (λ l. Memᴰ·append-right (map (size p (q .bits)) (q .sizes)) (in-rows p rs l h)) (List·Memᴰ·cases-cons m)
-  where
-    here : r ≡ q → List·Memᴰ (size p (r .bits) n) (inRows p (q ∷ rs))
-    here e = rw (← e) (Memᴰ·append-left (inRows p rs) (Memᴰ·map (size p (r .bits)) h))
-
-pub in-all : (qs : List Entry) {q : Entry} {z : Size} → List·Memᴰ q qs → List·Memᴰ z (sizesOf q) → List·Memᴰ z (allSizes qs)
-in-all [] m h = absurd (List·Memᴰ·not-nil m)
-in-all (p ∷ qs) {q} {z} m h = ⊎-elim here (λ l. Memᴰ·append-right (sizesOf p) (in-all qs l h)) (List·Memᴰ·cases-cons m)
-  where
-    here : q ≡ p → List·Memᴰ z (allSizes (p ∷ qs))
-    here e = rw (← e) (Memᴰ·append-left (allSizes qs) h)
-
--- .. and back: in one of the profiles
-pub of-all : (qs : List Entry) {z : Size} → List·Memᴰ z (allSizes qs) → (q : Entry) × List·Memᴰ q qs × List·Memᴰ z (sizesOf q)
-of-all [] m = absurd (List·Memᴰ·not-nil m)
-of-all (p ∷ qs) m =
-    ⊎-elim (λ h. (p, List·Memᴰ·head refl, h)) (λ h. let r = of-all qs h in (r .0, List·Memᴰ·tail (r .1), r .2))
-    (List·Memᴰ·append-cases (sizesOf p) m)
+    → List·Memᴰ r rs → List·Memᴰ n (r .sizes) → List·Memᴰ (size p (r .bits) n) (gathered (inRow p) rs)
+in-rows p rs {r} m h = in-gathered (inRow p) rs m (Memᴰ·map (size p (r .bits)) h)
 
 -- in one of two tables
 pub either-all : (ps qs : List Entry) {z : Size}
     → List·Memᴰ z (allSizes (ps ++ qs)) → List·Memᴰ z (allSizes ps) ⊎ List·Memᴰ z (allSizes qs)
 either-all ps qs m =
-    let r = of-all (ps ++ qs) m in
-    ⊎-elim (λ l. inl (in-all ps l (r .2))) (λ l. inr (in-all qs l (r .2))) (List·Memᴰ·append-cases ps (r .1))
+    let r = of-gathered sizesOf (ps ++ qs) m in
+    ⊎-elim (λ l. inl (in-gathered sizesOf ps l (r .2))) (λ l. inr (in-gathered sizesOf qs l (r .2))) (List·Memᴰ·append-cases ps (r .1))

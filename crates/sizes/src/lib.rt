@@ -20,8 +20,8 @@ pub enum Family {
     Turbo,
 }
 
-// The numbers of a profile's formulas: d, the rows of a carrier interleaver; r, how far a spatial stream is turned; and how many streams there
-// are. One that the family lacks is 0.
+// The numbers of a profile's formulas: d, the rows of a carrier interleaver; r, N_ROT of IEEE 802.11n; and how many streams there are. One that the
+// family lacks is 0.
 pub struct Numbers {
     pub d: u32,
     pub r: u32,
