@@ -20,8 +20,7 @@ rotated() {
 turned_round() { awk '{ l[$1] = NR - 1 } END { for (t = 0; t < NR; t++) print l[t] }'; }
 
 # every list, both ways
-: >"$work/m"
-: >"$work/l"
+for file in m l lists backs; do : >"$work/$file"; done
 for set in '6 1 52' '6 2 104' '6 4 208' '6 6 312' '7 1 108' '7 2 216' '7 4 432' '7 6 648'; do
     for stream in 1 2 3 4; do
         echo "list $set stream=$stream" >>"$work/lists"

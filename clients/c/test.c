@@ -1,6 +1,6 @@
-/* Tests every call of interleaver.h: starred addresses, each refusal that can be reached and their order, out-parameters and buffers left alone by a
-   refused call, walks and streams cut into parts, receptions added up and read, the bits of floats, profiles 6 and 7 beside their formula. Prints a
-   line for each failure, and the sum. This file: the test of a set, and one address. */
+/* Tests every call of interleaver.h: addresses that are known, document 01's starred ones among them, each refusal that can be reached and their
+   order, out-parameters and buffers left alone by a refused call, walks and streams cut into parts, receptions added up and read, the bits of floats,
+   profiles 6 and 7 beside their formula. Prints a line for each failure, and the sum. This file: the test of a set, and one address. */
 #include "test.h"
 
 static unsigned passed, failed;
@@ -70,24 +70,24 @@ static void addresses(void) {
     static const struct {
         interleaver_set set;
         uint32_t k, m;
-    } starred_m[] = {{{3, 4, 192, 1}, 0, 0}, {{3, 4, 192, 1}, 1, 13}, {{3, 4, 192, 1}, 16, 1}, {{3, 4, 192, 1}, 17, 12}, {{3, 4, 192, 1}, 191, 190},
+    } known_m[] = {{{3, 4, 192, 1}, 0, 0}, {{3, 4, 192, 1}, 1, 13}, {{3, 4, 192, 1}, 16, 1}, {{3, 4, 192, 1}, 17, 12}, {{3, 4, 192, 1}, 191, 190},
         {{3, 6, 288, 1}, 1, 20}, {{3, 6, 288, 1}, 2, 37}, {{3, 6, 288, 1}, 3, 54}, {{3, 6, 288, 1}, 287, 287}, {{6, 1, 52, 1}, 1, 4},
         {{6, 1, 52, 2}, 0, 30}, {{6, 1, 52, 2}, 1, 34}, {{6, 1, 52, 3}, 0, 41}, {{6, 1, 52, 4}, 0, 19}, {{6, 1, 52, 4}, 51, 18},
         {{7, 6, 648, 1}, 1, 38}, {{7, 6, 648, 2}, 1, 338}, {{7, 6, 648, 3}, 1, 512}, {{7, 6, 648, 4}, 0, 126}, {{7, 6, 648, 4}, 1, 164}};
     static const struct {
         interleaver_set set;
         uint32_t t, l;
-    } starred_l[] = {{{4, 4, 64, 1}, 4, 17}, {{4, 4, 64, 1}, 5, 1}, {{4, 4, 64, 1}, 6, 49}, {{4, 4, 64, 1}, 7, 33}, {{4, 6, 96, 1}, 6, 17},
+    } known_l[] = {{{4, 4, 64, 1}, 4, 17}, {{4, 4, 64, 1}, 5, 1}, {{4, 4, 64, 1}, 6, 49}, {{4, 4, 64, 1}, 7, 33}, {{4, 6, 96, 1}, 6, 17},
         {{5, 1, 40, 1}, 0, 39}, {{5, 1, 40, 1}, 9, 5}, {{5, 1, 40, 1}, 35, 33}, {{5, 1, 40, 1}, 39, 7}, {{5, 1, 41, 1}, 5, 36}};
     uint32_t address = 77;
     unsigned i;
-    for (i = 0; i < sizeof starred_m / sizeof starred_m[0]; i++) {
-        EXPECT(at_m(starred_m[i].set, starred_m[i].k) == starred_m[i].m);
-        EXPECT(at_l(starred_m[i].set, starred_m[i].m) == starred_m[i].k);
+    for (i = 0; i < sizeof known_m / sizeof known_m[0]; i++) {
+        EXPECT(at_m(known_m[i].set, known_m[i].k) == known_m[i].m);
+        EXPECT(at_l(known_m[i].set, known_m[i].m) == known_m[i].k);
     }
-    for (i = 0; i < sizeof starred_l / sizeof starred_l[0]; i++) {
-        EXPECT(at_l(starred_l[i].set, starred_l[i].t) == starred_l[i].l);
-        EXPECT(at_m(starred_l[i].set, starred_l[i].l) == starred_l[i].t);
+    for (i = 0; i < sizeof known_l / sizeof known_l[0]; i++) {
+        EXPECT(at_l(known_l[i].set, known_l[i].t) == known_l[i].l);
+        EXPECT(at_m(known_l[i].set, known_l[i].l) == known_l[i].t);
     }
     for (i = 0; i < REFUSED; i++) {
         EXPECT(interleaver_address_l(&refused[i].set, 0, &address) == refused[i].number && address == 77);

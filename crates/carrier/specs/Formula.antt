@@ -3,8 +3,7 @@
 -- are source 000's numbers. k is a coded bit's index before the first permutation, N is N_CBPS, s is max(N_BPSC/2, 1). Over any d, N and s; / is whole
 -- division. These are definitions.
 use Prim.Native.Nat.{ℕ, _+_, _-_, _*_, _/_, _%_}
-use mathlib.Core.Bool.{false}
-use Rattle.laws.specs.Walk.{Rule}
+use Rattle.laws.specs.Walk.{Rule, bareRule}
 
 -- (1), the first permutation: m = (N/d)·(k mod d) + k/d
 unfoldable pub firstStep : ℕ → ℕ → ℕ → ℕ
@@ -30,6 +29,6 @@ lastStep d n m = d * m - (n - 1) * (d * m / n)
 unfoldable pub carrierL : ℕ → ℕ → ℕ → ℕ → ℕ
 carrierL d n s t = lastStep d n (backStep d n s t)
 
--- the rule of a block: a cell is an output position, no cell is padding, and nothing is searched for
+-- the rule of a block
 abbrev pub carrierRule : ℕ → ℕ → ℕ → Rule
-carrierRule d n s = record { total = n; address = carrierL d n s; l = carrierL d n s; m = carrierM d n s; fails = false }
+carrierRule d n s = bareRule n (carrierL d n s) (carrierM d n s)

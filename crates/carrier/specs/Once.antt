@@ -4,13 +4,10 @@ use mathlib.Core.Path.{sym, subst}
 use Prim.Native.Nat.{ℕ, _+_, _-_, _*_, _/_, _≤_, _<_}
 use native.Mathlib.Nat.{mul-le-mul-right, div-le-of-le-mul, mul-div-le}
 use native.Mathlib.Omega.{arith}
-use borrow.Author.Tests.{lt-ltb}
 use Rattle.laws.specs.Digits.{less-one}
 use Rattle.laws.specs.Sized.{Sized, groups-pos, d-le}
 use Rattle.laws.specs.Perm.{Perm}
-use Rattle.laws.specs.Once.{inside}
-use Rattle.laws.specs.Bare.{keep-bare}
-use Rattle.laws.specs.Walk.{Lawful}
+use Rattle.laws.specs.Walk.{Lawful, bare-lawful}
 use Rattle.carrier.specs.Formula.{carrierM, carrierL, carrierRule}
 use Rattle.carrier.specs.Steps.{digits-perm}
 
@@ -21,11 +18,7 @@ module _ {d n s : ℕ} (z : Sized d n s) where
 
   -- the laws of the family
   pub carrier-lawful : n < 65536 → Lawful n (carrierRule d n s)
-  carrier-lawful h = record {
-    perm = carrier-once;
-    list = keep-bare (carrierL d n s) (inside n) 0 n (λ x l o. lt-ltb (carrierL d n s x) n (carrier-once .l-below x (omega arith)));
-    small = h;
-  }
+  carrier-lawful h = bare-lawful carrier-once h
 
   -- the differences of (2) and (4) are never below 0
   pub turn-fits : (m : ℕ) → d * m / n ≤ m + n

@@ -1,10 +1,10 @@
 -- The third permutation of IEEE 802.11n (data interleaver of the HT PHY), the frequency rotation, after the two of Formula.antt: with j the index
--- after the second, ((j - ((2·(i - 1)) mod 3 + 3·((i - 1)/3))·N_ROT·N_BPSCS) mod N_CBPSS. N is N_CBPSS, bits is N_BPSCS, r is N_ROT, which is 11
--- at 20 MHz and 29 at 40 MHz, and i is i_SS, the spatial stream, from 1 on. (Of the first two steps d is N_COL, N/d is N_ROW, and s is
--- max(N_BPSCS/2, 1).) Over any of these numbers; / is whole division. These are definitions.
+-- after the second, (j - ((2·(i - 1)) mod 3 + 3·((i - 1)/3))·N_ROT·N_BPSCS) mod N_CBPSS. N is N_CBPSS, bits is N_BPSCS, r is N_ROT, which is 11 at
+-- 20 MHz and 29 at 40 MHz, and i is i_SS, the spatial stream, from 1 on. (Of the first two steps d is N_COL, N/d is N_ROW, and s is
+-- max(N_BPSCS/2, 1); a column of the standard's, which it reads out one after the other, is here a row of the output.) Over any of these numbers;
+-- / is whole division. These are definitions.
 use Prim.Native.Nat.{ℕ, _+_, _-_, _*_, _/_, _%_}
-use mathlib.Core.Bool.{false}
-use Rattle.laws.specs.Walk.{Rule}
+use Rattle.laws.specs.Walk.{Rule, bareRule}
 use Rattle.carrier.specs.Formula.{carrierM, carrierL}
 
 -- how far stream i is turned: ((2·(i - 1)) mod 3 + 3·((i - 1)/3))·r·bits
@@ -27,12 +27,6 @@ thirdBack n bits r i t = (t + turn bits r i) % n
 unfoldable pub spatialL : ℕ → ℕ → ℕ → ℕ → ℕ → ℕ → ℕ → ℕ
 spatialL d n s bits r i t = carrierL d n s (thirdBack n bits r i t)
 
--- the rule of a block: a cell is an output position, no cell is padding, and nothing is searched for
+-- the rule of a block
 abbrev pub spatialRule : ℕ → ℕ → ℕ → ℕ → ℕ → ℕ → Rule
-spatialRule d n s bits r i = record {
-  total = n;
-  address = spatialL d n s bits r i;
-  l = spatialL d n s bits r i;
-  m = spatialM d n s bits r i;
-  fails = false;
-}
+spatialRule d n s bits r i = bareRule n (spatialL d n s bits r i) (spatialM d n s bits r i)

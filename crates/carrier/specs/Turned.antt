@@ -5,14 +5,12 @@ use Prim.Native.Nat.{ℕ, _+_, _-_, _*_, _/_, _%_, _≤_, _<_}
 use native.Mathlib.Nat.{mod-add-mod, mod-mod, mod-lt, mod-eq-of-lt, add-mod-right, mul-le-mul-right, mul-assoc, zero-mul, add-zero, sub-zero}
 use native.Mathlib.Omega.{arith}
 use lib.Dec.{leb}
-use borrow.Author.Tests.{leb-true, lt-ltb}
+use borrow.Author.Tests.{leb-true}
 use Rattle.laws.specs.Digits.{mod-cancel}
 use Rattle.laws.specs.Span.{at-number}
 use Rattle.laws.specs.Sized.{Sized}
 use Rattle.laws.specs.Perm.{Perm}
-use Rattle.laws.specs.Once.{inside}
-use Rattle.laws.specs.Bare.{keep-bare}
-use Rattle.laws.specs.Walk.{Lawful}
+use Rattle.laws.specs.Walk.{Lawful, bare-lawful}
 use Rattle.carrier.specs.Formula.{carrierM, carrierL}
 use Rattle.carrier.specs.Third.{turn, thirdStep, spatialM, thirdBack, spatialL, spatialRule}
 use Rattle.carrier.specs.Once.{carrier-once}
@@ -73,13 +71,7 @@ module _ {d n s : ℕ} (z : Sized d n s) (bits r i : ℕ) (h : turn bits r i < n
 
   -- the laws of the family
   pub spatial-lawful : n < 65536 → Lawful n (spatialRule d n s bits r i)
-  spatial-lawful o = record {
-    perm = spatial-once;
-    list =
-        keep-bare (spatialL d n s bits r i) (inside n) 0 n
-        (λ x l m. lt-ltb (spatialL d n s bits r i x) n (spatial-once .l-below x (omega arith)));
-    small = o;
-  }
+  spatial-lawful o = bare-lawful spatial-once o
 
 -- of stream 1 L and M are those of the two steps
 module _ {d n s : ℕ} (z : Sized d n s) (bits r : ℕ) where

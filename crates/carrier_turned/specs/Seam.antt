@@ -1,15 +1,16 @@
 -- What the pieces of a turned walk make up: of L, those on either side of the seam, which is the cell N - v; of M, the walk and the pass that takes
 -- the turn off. Rests on Turned.
 use Prim.Native.Nat.{ℕ, min, _+_, _-_, _%_, _≤_, _<_}
-use mathlib.Core.List.{List, _++_, append-assoc, append-nil}
+use mathlib.Core.List.{List, _++_, append-assoc}
 use mathlib.Core.Path.{_≡_, sym, ap, ap₂, _∙_}
 use native.Mathlib.Nat.{zero-add}
 use native.Mathlib.Omega.{arith}
 use lib.ListN.{length, getD, take, drop, length-drop, length-append}
-use lib.Seq.{length-take-le, drop-length, take-at, drop-at, drop-drop, getD-take}
-use Rattle.laws.specs.Run.{run, length-run, getD-run, run-moved, run-join}
+use lib.Seq.{length-take-le, take-at, drop-at, drop-drop}
+use Rattle.laws.specs.Run.{run, length-run, run-moved, run-cut}
 use Rattle.laws.specs.Fill.{Filled}
-use Rattle.laws.specs.Lanes.{Ran}
+use Rattle.laws.specs.Lanes.{Ran, ran-full}
+use Rattle.laws.specs.Loop.{by-run}
 use Rattle.carrier.specs.Formula.{carrierL, carrierM}
 use Rattle.carrier.specs.Once.{carrier-once}
 use Rattle.carrier_turned.specs.Turned.{turnedL, turnedM, Within, TakenOff, off, ahead, behind}
@@ -31,16 +32,8 @@ module _ (d n s v : ℕ) (h : v < n) where
 at-seam : (long n v cell count first : ℕ) → count ≡ min long (n - cell) → first ≡ min long (n - (cell + v)) → first < count → first ≡ n - (cell + v)
 at-seam long n v cell count first c f o = omega arith
 
--- and the second is as long as is asked for
-as-many : (count first n v cell : ℕ) → v < n → cell + count ≤ n → first < count → first ≡ n - (cell + v) → min (count - first) (n - 0) ≡ count - first
-as-many count first n v cell h l o e = omega arith
-
 within-block : (long n cell count : ℕ) → cell ≤ n → count ≡ min long (n - cell) → (cell + count ≤ n) × (count ≤ long)
 within-block long n cell count h c = (omega arith, omega arith)
-
--- from the seam on as many as are asked for
-all-lent : (long n v cell count : ℕ) → v < n → cell ≤ n → count ≡ min long (n - cell) → n ≤ cell + v → count ≡ min count (n - (cell - (n - v)))
-all-lent long n v cell count h l c b = omega arith
 
 module _ {d n s v cell : ℕ} (w : Within d n s v cell) {old : List ℕ} {count : ℕ} (c : count ≡ min (length old) (n - cell)) where
   -- no cell from the seam on: one piece
@@ -65,9 +58,12 @@ module _ {d n s v cell : ℕ} (w : Within d n s v cell) {old : List ℕ} {count 
     list-is =
         ap₂ _++_ (front ∙ ahead-run d n s v (w .turn-in) cell first (omega (arith, r .count-is))) (ap₂ _++_ (second ∙ join) rest)
         ∙ sym (append-assoc (run (turnedL d n s v) cell first) (run (turnedL d n s v) (cell + first) (count - first)) (drop count old))
-        ∙ ap (λ (l : List ℕ). l ++ drop count old) (sym (run-join (turnedL d n s v) cell first (count - first)) ∙ ap (run (turnedL d n s v) cell) (let e : first + (count - first) ≡ count = omega arith in e));
+        ∙ ap (λ (l : List ℕ). l ++ drop count old) (sym (run-cut (turnedL d n s v) cell count first (omega arith)));
   }
     where
+      inside : (cell + count ≤ n) × (count ≤ length old)
+      inside = within-block (length old) n cell count (w .at .cell-in) c
+
       ended : first ≡ n - (cell + v)
       ended = at-seam (length old) n v cell count first c (r .count-is) o
 
@@ -80,18 +76,10 @@ module _ {d n s v cell : ℕ} (w : Within d n s v cell) {old : List ℕ} {count 
       lent : length (take (count - first) (drop first mid)) ≡ count - first
       lent =
           length-take-le (count - first) (drop first mid)
-          (omega (arith, ap length behind-first ∙ length-drop first old, within-block (length old) n cell count (w .cell-in) c .1))
-
-      k-is : k ≡ count - first
-      k-is = q .count-is ∙ ap (λ (x : ℕ). min x (n - 0)) lent ∙ as-many count first n v cell (w .turn-in) (within-block (length old) n cell count (w .cell-in) c .0) o ended
+          (omega (arith, ap length behind-first ∙ length-drop first old, inside .1))
 
       second : part ≡ run (carrierL d n s) 0 (count - first)
-      second =
-          q .list-is
-          ∙ ap (λ (x : ℕ). run (carrierL d n s) 0 x ++ drop x (take (count - first) (drop first mid))) k-is
-          ∙ ap (λ (x : ℕ). run (carrierL d n s) 0 (count - first) ++ drop x (take (count - first) (drop first mid))) (sym lent)
-          ∙ ap (λ (l : List ℕ). run (carrierL d n s) 0 (count - first) ++ l) (drop-length (take (count - first) (drop first mid)))
-          ∙ append-nil (run (carrierL d n s) 0 (count - first))
+      second = ran-full q (omega (arith, lent, inside .0)) ∙ ap (run (carrierL d n s) 0) lent
 
       join : run (carrierL d n s) 0 (count - first) ≡ run (turnedL d n s v) (cell + first) (count - first)
       join =
@@ -109,38 +97,29 @@ module _ {d n s v cell : ℕ} (w : Within d n s v cell) {old : List ℕ} {count 
       → Ran (turnedL d n s v) n cell old (part ++ drop count old) count
   past-seam {part} {k} b r = record {
     count-is = c;
-    list-is = ap (λ (l : List ℕ). l ++ drop count old) (all ∙ behind-run d n s v (w .turn-in) cell count b (within-block (length old) n cell count (w .cell-in) c .0));
+    list-is = ap (λ (l : List ℕ). l ++ drop count old) (all ∙ behind-run d n s v (w .turn-in) cell count b (inside .0));
   }
     where
-      lent : length (take count old) ≡ count
-      lent = length-take-le count old (within-block (length old) n cell count (w .cell-in) c .1)
+      inside : (cell + count ≤ n) × (count ≤ length old)
+      inside = within-block (length old) n cell count (w .at .cell-in) c
 
-      k-is : k ≡ count
-      k-is = r .count-is ∙ ap (λ (x : ℕ). min x (n - (cell - (n - v)))) lent ∙ sym (all-lent (length old) n v cell count (w .turn-in) (w .cell-in) c b)
+      lent : length (take count old) ≡ count
+      lent = length-take-le count old (inside .1)
 
       all : part ≡ run (carrierL d n s) (cell - (n - v)) count
-      all =
-          r .list-is
-          ∙ ap (λ (x : ℕ). run (carrierL d n s) (cell - (n - v)) x ++ drop x (take count old)) k-is
-          ∙ ap (λ (x : ℕ). run (carrierL d n s) (cell - (n - v)) count ++ drop x (take count old)) (sym lent)
-          ∙ ap (λ (l : List ℕ). run (carrierL d n s) (cell - (n - v)) count ++ l) (drop-length (take count old))
-          ∙ append-nil (run (carrierL d n s) (cell - (n - v)) count)
+      all = ran-full r (omega (arith, lent, inside .0)) ∙ ap (run (carrierL d n s) (cell - (n - v))) lent
 
 -- M: what the walk wrote, and the pass over it
 module _ {d n s v cell : ℕ} (w : Within d n s v cell) {old mid : List ℕ} {count : ℕ} (r : Ran (carrierM d n s) n cell old mid count) where
   front : (y : ℕ) → y < count → getD mid y 0 ≡ carrierM d n s (cell + y)
-  front y l =
-      ap (λ (x : List ℕ). getD x y 0) (r .list-is)
-      ∙ sym (getD-take count (run (carrierM d n s) cell count ++ drop count old) y 0 l)
-      ∙ ap (λ (x : List ℕ). getD x y 0) (take-at (run (carrierM d n s) cell count) (drop count old) count (length-run (carrierM d n s) cell count))
-      ∙ getD-run (carrierM d n s) cell count y 0 l
+  front = by-run (carrierM d n s) cell count mid (drop count old) (r .list-is)
 
   pub taken-off : TakenOff n v mid count
   taken-off = record {
-    small = w .small;
+    small = w .at .small;
     turn-in = w .turn-in;
     room = omega (arith, ap length (r .list-is), length-append (run (carrierM d n s) cell count) (drop count old), length-run (carrierM d n s) cell count);
-    below = λ y l. rw (front y l) (carrier-once (w .size) .m-below (cell + y) (omega (arith, r .count-is)));
+    below = λ y l. rw (front y l) (carrier-once (w .at .size) .m-below (cell + y) (omega (arith, r .count-is)));
   }
 
   pub both-passes : {new : List ℕ} → Filled (off n v mid) 0 mid new count → Ran (turnedM d n s v) n cell old new count

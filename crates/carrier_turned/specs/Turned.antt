@@ -1,16 +1,13 @@
 -- The walks of a spatial stream over how far it is turned: what they write on either side of the seam, and that the turn of its numbers makes them
 -- the walks of its rule. Rests on Third and Turned of crate carrier.
 use Prim.Native.Nat.{ℕ, _+_, _-_, _*_, _%_, _≤_, _<_}
-use mathlib.Core.List.{List, _++_}
+use mathlib.Core.List.{List}
 use mathlib.Core.Path.{_≡_, sym, ap, _∙_}
 use native.Mathlib.Nat.{mod-eq-of-lt, add-mod-right, le-of-lt}
 use native.Mathlib.Omega.{arith}
-use lib.ListN.{length, getD, drop}
-use Rattle.laws.specs.Sized.{Sized}
-use Rattle.laws.specs.Run.{run-same}
-use Rattle.laws.specs.Lanes.{Ran}
+use lib.ListN.{length, getD}
 use Rattle.laws.specs.Walk.{Rule}
-use Rattle.carrier.specs.Block.{Block}
+use Rattle.carrier.specs.Block.{Block, Whole, block}
 use Rattle.carrier.specs.Formula.{carrierL, carrierM}
 use Rattle.carrier.specs.Third.{turn, thirdStep, thirdBack, spatialL, spatialM, spatialRule}
 use Rattle.carrier.specs.Once.{carrier-once}
@@ -26,9 +23,7 @@ turnedM d n s v k = (carrierM d n s k + n - v) % n
 
 -- a cell of such a block, or the one behind its last
 pub record Within (d n s v cell : ℕ) : Type 0 where
-  pub size : Sized d n s
-  pub small : n < 65536
-  pub cell-in : cell ≤ n
+  pub at : Block d n s cell
   pub turn-in : v < n
 
 -- the block of a stream: its turn, its rule, and what the leaf functions require of it
@@ -39,8 +34,7 @@ abbrev pub ruleBy : Stream → Rule
 ruleBy b = spatialRule (b .d) (b .n) (b .s) (b .bits) (b .r) (b .stream)
 
 pub record Spatial (b : Stream) : Type 0 where
-  pub size : Sized (b .d) (b .n) (b .s)
-  pub small : b .n < 65536
+  pub whole : Whole (b .d) (b .n) (b .s)
   pub first : 1 ≤ b .stream
   pub last : b .stream ≤ 4
   pub below : 3 * (b .r * b .bits) < b .n
@@ -88,11 +82,11 @@ module _ {b : Stream} (h : Spatial b) {v : ℕ} (e : v ≡ turnBy b) where
   turn-lt = rw e (turn-in h)
 
   pub within : {cell : ℕ} → cell ≤ b .n → Within (b .d) (b .n) (b .s) v cell
-  within l = record { size = h .size; small = h .small; cell-in = l; turn-in = turn-lt }
+  within l = record { at = block (h .whole) l; turn-in = turn-lt }
 
 -- what an address of the two steps requires
 pub block-at : {b : Stream} → Spatial b → {t : ℕ} → t < b .n → Block (b .d) (b .n) (b .s) t × (t < b .n)
-block-at h l = (record { size = h .size; small = h .small; cell-in = le-of-lt l }, l)
+block-at h l = (block (h .whole) (le-of-lt l), l)
 
 -- its rule is the two steps', turned by it
 module _ (b : Stream) {v : ℕ} (e : v ≡ turnBy b) where
@@ -104,23 +98,9 @@ module _ (b : Stream) {v : ℕ} (e : v ≡ turnBy b) where
   unfolding turnedM spatialM thirdStep
   m-by k = ap (λ (v : ℕ). (carrierM (b .d) (b .n) (b .s) k + b .n - v) % b .n) e
 
-  pub ran-l : {cell count : ℕ} {old new : List ℕ} → Ran (turnedL (b .d) (b .n) (b .s) v) (b .n) cell old new count
-      → Ran (ruleBy b .l) (b .n) cell old new count
-  ran-l {cell} {count} {old} r = record {
-    count-is = r .count-is;
-    list-is = r .list-is ∙ ap (λ (l : List ℕ). l ++ drop count old) (run-same (turnedL (b .d) (b .n) (b .s) v) (ruleBy b .l) cell count (λ i o. l-by i));
-  }
-
-  pub ran-m : {cell count : ℕ} {old new : List ℕ} → Ran (turnedM (b .d) (b .n) (b .s) v) (b .n) cell old new count
-      → Ran (ruleBy b .m) (b .n) cell old new count
-  ran-m {cell} {count} {old} r = record {
-    count-is = r .count-is;
-    list-is = r .list-is ∙ ap (λ (l : List ℕ). l ++ drop count old) (run-same (turnedM (b .d) (b .n) (b .s) v) (ruleBy b .m) cell count (λ i o. m-by i));
-  }
-
 -- M of the two steps at a position, and the turn taken off it
 pub m-lt : {b : Stream} → Spatial b → {k a : ℕ} → k < b .n → a ≡ carrierM (b .d) (b .n) (b .s) k → a < b .n
-m-lt h l e = rw e (carrier-once (h .size) .m-below _ l)
+m-lt h l e = rw e (carrier-once (h .whole .size) .m-below _ l)
 
 pub off-of : (b : Stream) (k : ℕ) {a : ℕ} (v : ℕ) → a ≡ carrierM (b .d) (b .n) (b .s) k → (a + b .n - v) % b .n ≡ turnedM (b .d) (b .n) (b .s) v k
 unfolding turnedM

@@ -3,6 +3,7 @@
 // the two steps, and a pass over what it wrote that takes the turn off. No address is divided for. The public functions are leaf
 // functions: the crate above them tests a set first, and shows what they require.
 use carrier::least;
+use carrier::turn_of;
 use laws::Leaf;
 use laws::Single;
 ghost use mathlib.Core.Path.{_≡_};
@@ -10,7 +11,7 @@ ghost use Prim.Native.Nat.{ℕ, _+_, _-_, _%_, _<_};
 ghost use Rattle.laws.specs.Fill.{Filled};
 ghost use Rattle.laws.specs.Lanes.{Ran};
 ghost use Rattle.laws.specs.Walk.{LeafOf, SingleOf, back};
-ghost use Rattle.carrier_turned.specs.Turned.{turnedL, turnedM, Within, turnBy, ruleBy, Spatial, TakenOff, off};
+ghost use Rattle.carrier_turned.specs.Turned.{turnedL, turnedM, Within, ruleBy, Spatial, TakenOff, off};
 
 // A block of a spatial stream: d, N and s of the two steps, and bits, r and the stream of the third.
 pub struct Stream {
@@ -20,15 +21,6 @@ pub struct Stream {
     pub bits: usize,
     pub r: usize,
     pub stream: usize,
-}
-
-// How far the stream is turned: by division, once a call.
-fn turn_of(b: Stream) -> usize
-    requires { ⌜ Spatial b ⌝ }
-    ensures { λ v. ⌜ v ≡ turnBy b ⌝ }
-{
-    let i = b.stream - 1;
-    (2 * i % 3 + 3 * (i / 3)) * (b.r * b.bits)
 }
 
 // Writes L from a cell on, as far as there is room and cells; gives back how many. seam is the cell that holds what the two steps have at 0.
@@ -93,7 +85,7 @@ pub fn walk_l(b: Stream, cell: usize, out: &mut [u16]) -> Leaf
     if b.n < cell {
         return Leaf::Stopped(9);
     }
-    let v = turn_of(b);
+    let v = turn_of(b.bits, b.r, b.stream);
     let count = write_l(b.d, b.n, b.s, v, cell, out);
     Leaf::Went {
         written: count,
@@ -109,7 +101,7 @@ pub fn walk_m(b: Stream, cell: usize, out: &mut [u16]) -> Leaf
     if b.n < cell {
         return Leaf::Stopped(9);
     }
-    let v = turn_of(b);
+    let v = turn_of(b.bits, b.r, b.stream);
     let count = write_m(b.d, b.n, b.s, v, cell, out);
     Leaf::Went {
         written: count,
@@ -125,7 +117,7 @@ pub fn one_l(b: Stream, t: usize) -> Single
     if b.n <= t {
         return Single::Barred(4);
     }
-    let v = turn_of(b);
+    let v = turn_of(b.bits, b.r, b.stream);
     let seam = b.n - v;
     if t < seam {
         return Single::At(carrier_rows::address(b.d, b.n, b.s, t + v));
@@ -141,7 +133,7 @@ pub fn one_m(b: Stream, k: usize) -> Single
     if b.n <= k {
         return Single::Barred(4);
     }
-    let v = turn_of(b);
+    let v = turn_of(b.bits, b.r, b.stream);
     let a = carrier_columns::address(b.d, b.n, b.s, k);
     if a < v {
         return Single::At(a + (b.n - v));

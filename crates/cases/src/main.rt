@@ -1,4 +1,5 @@
-// The cases of document 01 that no proved table states, and some refusals, by the public calls: each is printed with its outcome.
+// The cases of document 01 that no proved table states, two lists of request 4 that are worked by hand, and some refusals, by the public calls: each is
+// printed with its outcome.
 mod looks;
 mod nothing;
 mod turned;
@@ -144,10 +145,6 @@ fn show_ones() {
     show_one(Way::Interleaver, carrier, 192);
     show_one(Way::Deinterleaver, carrier, 191);
     show_one(Way::Deinterleaver, carrier, 192);
-    show_one(Way::Interleaver, stream_set(6, 2, 104, 2), 59);
-    show_one(Way::Interleaver, stream_set(6, 2, 104, 2), 60);
-    show_one(Way::Deinterleaver, stream_set(7, 6, 648, 4), 647);
-    show_one(Way::Deinterleaver, stream_set(7, 6, 648, 5), 648);
 }
 
 fn tell_moved(m: Moved) {
@@ -214,6 +211,7 @@ fn main() {
     show_walks();
     turned::show_turned();
     show_ones();
+    turned::show_ones();
     show_blocks(Way::Interleaver);
     show_blocks(Way::Deinterleaver);
     show_softs();

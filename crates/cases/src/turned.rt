@@ -1,5 +1,6 @@
 // Request 4: profiles 6 and 7, and the stream. Two lists are worked by hand.
 use super::looks::MARK;
+use super::show_one;
 use super::show_walk;
 use super::stream_set;
 use super::test_set;
@@ -49,4 +50,12 @@ pub fn show_turned() {
     walk_eight(Way::Interleaver, wide, 648);
     walk_eight(Way::Interleaver, wide, 649);
     walk_five(Way::Interleaver, stream_set(3, 4, 192, 2), 193);
+}
+
+// One address on either side of the seam, the last of M, and a stream that there is not, which goes before the position.
+pub fn show_ones() {
+    show_one(Way::Interleaver, stream_set(6, 2, 104, 2), 59);
+    show_one(Way::Interleaver, stream_set(6, 2, 104, 2), 60);
+    show_one(Way::Deinterleaver, stream_set(7, 6, 648, 4), 647);
+    show_one(Way::Deinterleaver, stream_set(7, 6, 648, 5), 648);
 }

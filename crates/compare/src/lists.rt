@@ -129,39 +129,30 @@ pub fn every_m() -> u64 {
     )
 }
 
-// L and M of profiles 6 and 7, whole and in slices that cut before, at and after the place where a turned list begins again.
-pub fn every_spatial_l() -> u64 {
-    let a = walks_of(Way::Interleaver, b"L of profiles 6 and 7, whole", 3, 0);
-    let b = walks_of(
-        Way::Interleaver,
-        b"L of profiles 6 and 7, slices of 1",
-        3,
-        1,
-    );
-    let c = walks_of(
-        Way::Interleaver,
-        b"L of profiles 6 and 7, slices of 7",
-        3,
-        7,
-    );
+// Profiles 6 and 7, whole and in slices that cut before, at and after the place where a turned list begins again.
+fn every_spatial(way: Way, whole: &[u8], ones: &[u8], sevens: &[u8]) -> u64 {
+    let a = walks_of(way, whole, 3, 0);
+    let b = walks_of(way, ones, 3, 1);
+    let c = walks_of(way, sevens, 3, 7);
     sum(a, sum(b, c))
 }
 
+pub fn every_spatial_l() -> u64 {
+    every_spatial(
+        Way::Interleaver,
+        b"L of profiles 6 and 7, whole",
+        b"L of profiles 6 and 7, slices of 1",
+        b"L of profiles 6 and 7, slices of 7",
+    )
+}
+
 pub fn every_spatial_m() -> u64 {
-    let a = walks_of(Way::Deinterleaver, b"M of profiles 6 and 7, whole", 3, 0);
-    let b = walks_of(
+    every_spatial(
         Way::Deinterleaver,
+        b"M of profiles 6 and 7, whole",
         b"M of profiles 6 and 7, slices of 1",
-        3,
-        1,
-    );
-    let c = walks_of(
-        Way::Deinterleaver,
         b"M of profiles 6 and 7, slices of 7",
-        3,
-        7,
-    );
-    sum(a, sum(b, c))
+    )
 }
 
 // K 40 against its list one place off: what is counted here is in no total.

@@ -8,10 +8,10 @@ use Rattle.laws.specs.declared.Leaf.{Leaf}
 use Rattle.laws.specs.declared.Single.{Single}
 use Rattle.laws.specs.Walk.{Rule, inWay, LeafOf, SingleOf}
 use Rattle.sets.specs.declared.Set.{Set}
-use Rattle.sizes.specs.declared.Family.{Family}
-use Rattle.sizes.specs.declared.Family.the-variants.{Carrier, Spatial, Turbo}
+use Rattle.profiles.specs.declared.Family.{Family}
+use Rattle.profiles.specs.declared.Family.the-variants.{Carrier, Spatial, Turbo}
 use Rattle.sets.specs.Set.{isTurbo, rowsOf, rotationOf, groupOf}
-use Rattle.sets.specs.Carried.{carried, stream-in, turbo-size}
+use Rattle.sets.specs.Carried.{Carried, carried, stream-in, turbo-size}
 use Rattle.carrier.specs.Formula.{carrierRule}
 use Rattle.carrier.specs.Block.{Whole}
 use Rattle.carrier_turned.specs.declared.Stream.{Stream}
@@ -22,9 +22,13 @@ use Rattle.wcdma.specs.Turbo.{turboRule}
 use Rattle.families.specs.Rules.{familyRule, ruleOf, ruleIn, barred, rule-is}
 use Rattle.families.specs.Taken.{Taken}
 
+-- the block of the two steps
+whole-of : (s : Set) → Carried s → Whole (rowsOf s) (s .n) (groupOf s)
+whole-of s z = record { size = z .sized; small = omega (arith, z .small) }
+
 module _ {s : Set} (t : Taken s Carrier) {d g : ℕ} (p : d ≡ rowsOf s) (q : g ≡ groupOf s) where
   pub carrier-whole : Whole d (s .n) g
-  carrier-whole = let z = carried s (t .accepted) (ap isTurbo (t .which)) in rw (p, q) (record { size = z .sized; small = omega (arith, z .small) })
+  carrier-whole = rw (p, q) (whole-of s (carried s (t .accepted) (ap isTurbo (t .which))))
 
   pub carrier-rule : carrierRule d (s .n) g ≡ ruleOf s
   carrier-rule = ap₂ (λ (d g : ℕ). carrierRule d (s .n) g) p q ∙ sym (rule-is s (t .which))
@@ -38,7 +42,7 @@ module _ {s : Set} (t : Taken s Spatial) {b : Stream} (e : b ≡ streamOf s) whe
   spatial-block =
       let z = carried s (t .accepted) (ap isTurbo (t .which)) in
       let i = stream-in s (t .accepted) in
-      rw e (record { size = z .sized; small = omega (arith, z .small); first = i .0; last = i .1; below = z .below })
+      rw e (record { whole = whole-of s z; first = i .0; last = i .1; below = z .below })
 
   -- what its leaf promises is of the set's numbers
   pub spatial-leaf : (asked : Way) {cell : ℕ} {old new : List ℕ} {leaf : Leaf} → LeafOf (b .n) (inWay asked (b .n) (ruleBy b)) cell old new leaf

@@ -9,8 +9,8 @@ use Rattle.laws.specs.declared.Way.{Way}
 use Rattle.laws.specs.declared.Way.the-variants.{Interleaver, Deinterleaver}
 use Rattle.laws.specs.Walk.{Rule, inWay, Lawful, lawful-in}
 use Rattle.sets.specs.declared.Set.{Set}
-use Rattle.sizes.specs.declared.Family.{Family}
-use Rattle.sizes.specs.declared.Family.the-variants.{Carrier, Spatial, Turbo}
+use Rattle.profiles.specs.declared.Family.{Family}
+use Rattle.profiles.specs.declared.Family.the-variants.{Carrier, Spatial, Turbo}
 use Rattle.sets.specs.Set.{familyOf, isTurbo, rowsOf, rotationOf, groupOf}
 use Rattle.sets.specs.Verdict.{verdictOf}
 use Rattle.sets.specs.Carried.{carried, stream-in, turbo-size}

@@ -14,9 +14,9 @@ use Rattle.laws.specs.Walk.{walkCounts, leafLines, sayLeaf, LeafOf}
 use Rattle.laws.specs.Walk as along
 use Rattle.laws.specs.Leaves.{Fits, leaf-fits}
 use Rattle.sets.specs.declared.Set.{Set}
-use Rattle.sizes.specs.declared.Family.{Family}
+use Rattle.profiles.specs.declared.Family.{Family}
 use Rattle.sets.specs.Set.{familyOf, isTurbo, isSpatial}
-use Rattle.sizes.specs.declared.Family.the-variants.{Carrier, Spatial, Turbo}
+use Rattle.profiles.specs.declared.Family.the-variants.{Carrier, Spatial, Turbo}
 use Rattle.sets.specs.Admits.{Accepted}
 use Rattle.families.specs.Rules.{ruleIn, oneWay, barred, lawful-way}
 

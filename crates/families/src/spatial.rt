@@ -6,7 +6,7 @@ use laws::Way;
 use sets::Set;
 ghost use mathlib.Core.Path.{_≡_};
 ghost use Rattle.laws.specs.Walk.{SingleOf};
-ghost use Rattle.sizes.specs.declared.Family.the-variants.{Spatial};
+ghost use Rattle.profiles.specs.declared.Family.the-variants.{Spatial};
 ghost use Rattle.families.specs.Rules.{ruleOf, ruleIn};
 ghost use Rattle.families.specs.Taken.{Taken, WalkLeaf};
 ghost use Rattle.families.specs.Families.{streamOf};

@@ -1,8 +1,8 @@
 // The numbers of a command. A word that is no number is told, and the command does nothing.
-use super::named;
+use super::names;
 use super::told;
-use lines::among;
 use lines::word;
+use named::among;
 use numbers::Number;
 use sets::Set;
 
@@ -66,10 +66,10 @@ pub fn set(line: &[u8]) -> SetAsked {
     let Number::Value(n) = number(line, 3, b"N") else {
         return SetAsked::Wrong;
     };
-    if !named::all_known(line) {
+    if !names::all_known(line) {
         return SetAsked::Wrong;
     }
-    let Number::Value(stream) = named::number(line, b"stream", 1) else {
+    let Number::Value(stream) = names::number(line, b"stream", 1) else {
         return SetAsked::Wrong;
     };
     SetAsked::Given(Set {

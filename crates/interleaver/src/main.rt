@@ -1,7 +1,7 @@
 // The command line: words and numbers in, the answers of the proved libraries out. The loops here are over the questions of the command `lines`
 // and over named words; the others are in the crates below.
 mod asked; // asked.rt: the numbers of a command
-mod named; // named.rt: those that have names
+mod names; // names.rt: those that have names
 mod told; // told.rt: help, and what was expected
 
 use asked::SetAsked;

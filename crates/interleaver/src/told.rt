@@ -2,7 +2,7 @@
 use check::same;
 use libc::STDERR_FILENO;
 use libc::STDOUT_FILENO;
-use lines::among;
+use named::among;
 
 // What the first word asks for.
 pub enum Command {

@@ -1,13 +1,14 @@
 -- Writing a rule into a slice lane by lane: the cells lie in lanes of w, and inside a lane a stepped state gives the next entry.
 -- Over any rule and any state.
 use mathlib.Core.Path.{_≡_, refl, ap, _∙_, subst}
-use mathlib.Core.List.{List, _++_}
+use mathlib.Core.List.{List, _++_, append-nil}
 use Prim.Native.Nat.{ℕ, min, _+_, _-_, _*_, _/_, _≤_, _<_}
 use native.Mathlib.Nat.{le-antisymm}
 use native.Mathlib.Omega.{arith}
 use lib.ListN.{length, set, drop, length-set}
+use lib.Seq.{drop-length}
 use Rattle.laws.specs.Digits.{high, high-below}
-use Rattle.laws.specs.Run.{run}
+use Rattle.laws.specs.Run.{run, run-same}
 use Rattle.laws.specs.Fill.{Filled, filled-none, filled-more}
 
 -- what writing a part does, whatever was written before it: a slice whose first entries, up to from, are the rule's, cell x being the next,
@@ -106,6 +107,21 @@ module _ {S : Type 0} {f : ℕ → ℕ} {w : ℕ} {At : ℕ → ℕ → S → Ty
 pub record Ran (f : ℕ → ℕ) (n cell : ℕ) (old new : List ℕ) (count : ℕ) : Type 0 where
   pub count-is : count ≡ min (length old) (n - cell)
   pub list-is : new ≡ run f cell count ++ drop count old
+
+-- of a rule that agrees
+pub ran-same : {f g : ℕ → ℕ} {n cell count : ℕ} {old new : List ℕ} → ((i : ℕ) → f i ≡ g i) → Ran f n cell old new count → Ran g n cell old new count
+ran-same {f} {g} {cell = cell} {count = count} {old = old} e r = record {
+  count-is = r .count-is;
+  list-is = r .list-is ∙ ap (λ (l : List ℕ). l ++ drop count old) (run-same f g cell count (λ i h. e i));
+}
+
+-- where there are as many cells as room, the rule alone is left
+pub ran-full : {f : ℕ → ℕ} {n cell count : ℕ} {old new : List ℕ} → Ran f n cell old new count → length old ≤ n - cell → new ≡ run f cell (length old)
+ran-full {f} {n} {cell} {count} {old} r h =
+    r .list-is
+    ∙ ap (λ (k : ℕ). run f cell k ++ drop k old) (let e : count ≡ length old = omega (arith, r .count-is) in e)
+    ∙ ap (λ (l : List ℕ). run f cell (length old) ++ l) (drop-length old)
+    ∙ append-nil (run f cell (length old))
 
 pub lanes-all : {S : Type 0} {f : ℕ → ℕ} {w : ℕ} {At : ℕ → ℕ → S → Type 0} {n cell count : ℕ} {out₀ out : List ℕ} {lane y : ℕ} {at : S} {i : ℕ}
     → Lanewise f w At cell count out₀ out lane y at i → count ≤ i → count ≡ min (length out₀) (n - cell) → Ran f n cell out₀ out count

@@ -16,7 +16,7 @@ use Rattle.laws.specs.Lanes.{Ran}
 use Rattle.laws.specs.Cut.{steps-are, steps-le}
 use Rattle.laws.specs.Once.{inside}
 use Rattle.laws.specs.Bare.{ran-written, ran-cells, ran-slice}
-use Rattle.laws.specs.Walk.{Rule, walkList, walkCells, walkSlice, Counts, counts, walkCounts, leafLines, singleLines, sayLeaf, LeafOf, SingleOf, Lawful, n-le}
+use Rattle.laws.specs.Walk.{Rule, bareRule, walkList, walkCells, walkSlice, Counts, counts, walkCounts, leafLines, singleLines, sayLeaf, LeafOf, SingleOf, Lawful, n-le}
 
 -- a ruling, and what it makes of an answer and of a slice
 module _ {A : Type 0} (ls : List Line) (a : A) where
@@ -51,8 +51,8 @@ module _ {n : ℕ} {r : Rule} {cell : ℕ} {old : List ℕ} where
         record { answer = clear-says (leafLines r cell) _ c (ap₂ counts p q); slice = clear-leaves (leafLines r cell) _ old c s }
 
 -- a walk of a rule without padding, over N cells
-pub ran-leaf : {f l m : ℕ → ℕ} {n cell count : ℕ} {old new : List ℕ} → ((x : ℕ) → x < n → f x < n) → cell ≤ n → Ran f n cell old new count
-    → LeafOf n (record { total = n; address = f; l = l; m = m; fails = false }) cell old new (Went count count)
+pub ran-leaf : {l m : ℕ → ℕ} {n cell count : ℕ} {old new : List ℕ} → ((x : ℕ) → x < n → l x < n) → cell ≤ n → Ran l n cell old new count
+    → LeafOf n (bareRule n l m) cell old new (Went count count)
 unfolding walkList walkCells walkSlice
 ran-leaf below h r = leaf-went refl h (ran-written below r) (ran-cells below r) (ran-slice below r)
 

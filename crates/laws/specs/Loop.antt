@@ -59,10 +59,9 @@ module _ {A : Type 0} (table : List ℕ) (z : A) (src old : List A) where
   pub scatter-all : {new : List A} {i : ℕ} → Scattered table z src old new i → length src ≤ i → new ≡ scatter (by table) (length src) z src old
   scatter-all {new} {i} g h = g .list ∙ ap (λ (k : ℕ). scatter (by table) k z src old) (le-antisymm (g .far) h)
 
--- a table that begins with a rule is the rule
-pub by-run : (f : ℕ → ℕ) (n : ℕ) (table rest : List ℕ) → table ≡ run f 0 n ++ rest → (t : ℕ) → t < n → by table t ≡ f t
-by-run f n table rest e t h =
+-- a table that begins with a rule, from a on, is the rule
+pub by-run : (f : ℕ → ℕ) (a n : ℕ) (table rest : List ℕ) → table ≡ run f a n ++ rest → (t : ℕ) → t < n → by table t ≡ f (a + t)
+by-run f a n table rest e t h =
     ap (λ (l : List ℕ). getD l t 0) e
-    ∙ List·getD-append (run f 0 n) rest 0 t (subst (λ (x : ℕ). t < x) (sym (length-run f 0 n)) h)
-    ∙ getD-run f 0 n t 0 h
-    ∙ ap f (zero-add t)
+    ∙ List·getD-append (run f a n) rest 0 t (subst (λ (x : ℕ). t < x) (sym (length-run f a n)) h)
+    ∙ getD-run f a n t 0 h

@@ -2,7 +2,8 @@
 use mathlib.Core.Path.{_≡_, refl, sym, ap, _∙_, subst}
 use mathlib.Core.Bool.{Bool, true, false, _&&_, _||_, false≢true}
 use mathlib.Core.Logic.{⊎-elim}
-use mathlib.Core.List.{List, [], _∷_, List·Memᴰ, List·Memᴰ·head, List·Memᴰ·tail, List·Memᴰ·cases-cons, List·Memᴰ·not-nil, Memᴰ·cast}
+use mathlib.Core.List.{List, [], _∷_, _++_, List·Memᴰ, List·Memᴰ·head, List·Memᴰ·tail, List·Memᴰ·cases-cons, List·Memᴰ·not-nil, Memᴰ·cast}
+use mathlib.Core.List.{List·Memᴰ·append-cases, Memᴰ·append-left, Memᴰ·append-right}
 use Prim.Native.Nat.{ℕ, zero, suc, _*_, _/_, _%_, _≤_, _<_}
 use native.Mathlib.Nat.{div-add-mod, le-div-iff-mul-le, mul-zero, mul-suc}
 use native.Mathlib.Omega.{arith}
@@ -35,6 +36,35 @@ All P (x ∷ xs) = P x × All P xs
 pub by-member : {A : Type 0} (P : A → Type 0) (l : List A) → All P l → {a : A} → List·Memᴰ a l → P a
 by-member P [] h m = absurd (List·Memᴰ·not-nil m)
 by-member P (x ∷ xs) h m = ⊎-elim (λ q. subst P (sym q) (h .0)) (by-member P xs (h .1)) (List·Memᴰ·cases-cons m)
+
+-- of two lists, one after the other
+pub all-join : {A : Type 0} (P : A → Type 0) (xs ys : List A) → All P xs → All P ys → All P (xs ++ ys)
+all-join P [] ys h g = g
+all-join P (x ∷ xs) ys h g = (h .0, all-join P xs ys (h .1) g)
+
+-- and where a test that every entry passes shows it
+pub all-tested : {A : Type 0} {P : A → Type 0} (test : A → Bool) → ((x : A) → test x ≡ true → P x) → (l : List A) → every test l ≡ true → All P l
+all-tested test show [] e = tt
+all-tested test show (x ∷ xs) e = let p = both (test x) (every test xs) e in (show x (p .0), all-tested test show xs (p .1))
+
+-- what each entry of a list gives, one list after the other; and what stands there
+module _ {A B : Type 0} (f : A → List B) where
+  abbrev pub chained : List A → List B
+  chained [] = []
+  chained (x ∷ xs) = f x ++ chained xs
+
+  pub in-chained : (xs : List A) {x : A} {y : B} → List·Memᴰ x xs → List·Memᴰ y (f x) → List·Memᴰ y (chained xs)
+  in-chained [] m h = absurd (List·Memᴰ·not-nil m)
+  in-chained (z ∷ xs) {x} {y} m h = ⊎-elim here (λ l. Memᴰ·append-right (f z) (in-chained xs l h)) (List·Memᴰ·cases-cons m)
+    where
+      here : x ≡ z → List·Memᴰ y (chained (z ∷ xs))
+      here e = rw (← e) (Memᴰ·append-left (chained xs) h)
+
+  pub of-chained : (xs : List A) {y : B} → List·Memᴰ y (chained xs) → (x : A) × List·Memᴰ x xs × List·Memᴰ y (f x)
+  of-chained [] m = absurd (List·Memᴰ·not-nil m)
+  of-chained (z ∷ xs) m =
+      ⊎-elim (λ h. (z, List·Memᴰ·head refl, h)) (λ h. let r = of-chained xs h in (r .0, List·Memᴰ·tail (r .1), r .2))
+      (List·Memᴰ·append-cases (f z) m)
 
 -- a number is one of a list, as a test
 abbrev pub oneOf : ℕ → List ℕ → Bool

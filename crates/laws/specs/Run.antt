@@ -5,7 +5,7 @@ use mathlib.Core.List.{List, [], _∷_, _++_, List·Memᴰ, List·Memᴰ·head, 
 use Prim.Native.Nat.{ℕ, zero, suc, min, _+_, _-_, _≤_, _<_}
 use native.Mathlib.Nat.{add-zero, add-suc, suc-add, suc-sub-suc, sub-zero, not-suc-le-zero, le-of-suc-le-suc, zero-add, eq-or-lt-of-le}
 use native.Mathlib.Omega.{arith}
-use lib.ListN.{length, getD, take, drop}
+use lib.ListN.{length, getD, take, drop, take-append-drop}
 use lib.Seq.{ext-getD}
 
 module _ {A : Type 0} where
@@ -42,14 +42,7 @@ module _ {A : Type 0} where
   drop-run f a zero (suc k) = ap (run f (a + suc k)) (let e : 0 ≡ 0 - suc k = omega arith in e)
   drop-run f a (suc n) (suc k) = drop-run f (suc a) n k ∙ rw (suc-add, add-suc, suc-sub-suc)
 
-  -- two rules that agree
-  pub run-same : (f g : ℕ → A) (a n : ℕ) → ((i : ℕ) → i < a + n → f i ≡ g i) → run f a n ≡ run g a n
-  run-same f g a zero e = refl
-  run-same f g a (suc n) e =
-      ap (λ (x : A). x ∷ run f (suc a) n) (e a (omega arith))
-      ∙ ap (λ (l : List A). g a ∷ l) (run-same f g (suc a) n (λ i h. e i (omega arith)))
-
-  -- two that agree place by place, from whatever they begin at
+  -- two rules that agree place by place, from whatever they begin at
   pub run-moved : (f g : ℕ → A) (a b n : ℕ) → ((i : ℕ) → i < n → f (a + i) ≡ g (b + i)) → run f a n ≡ run g b n
   run-moved f g a b zero e = refl
   run-moved f g a b (suc n) e =
@@ -57,12 +50,15 @@ module _ {A : Type 0} where
       ∙ ap (λ (l : List A). g b ∷ l) (run-moved f g (suc a) (suc b) n
       (λ i h. ap f (suc-add a i ∙ sym (add-suc a i)) ∙ e (suc i) (omega arith) ∙ ap g (add-suc b i ∙ sym (suc-add b i))))
 
-  -- in two pieces
-  pub run-join : (f : ℕ → A) (a m n : ℕ) → run f a (m + n) ≡ run f a m ++ run f (a + m) n
-  run-join f a zero n = ap₂ (run f) (sym (add-zero a)) (zero-add n)
-  run-join f a (suc m) n =
-      ap (run f a) (suc-add m n)
-      ∙ ap (λ (l : List A). f a ∷ l) (run-join f (suc a) m n ∙ ap (λ (x : ℕ). run f (suc a) m ++ run f x n) (suc-add a m ∙ sym (add-suc a m)))
+  -- two that agree
+  pub run-same : (f g : ℕ → A) (a n : ℕ) → ((i : ℕ) → i < a + n → f i ≡ g i) → run f a n ≡ run g a n
+  run-same f g a n e = run-moved f g a a n (λ i h. e (a + i) (omega arith))
+
+  -- in two pieces, the first of which is k long
+  pub run-cut : (f : ℕ → A) (a n k : ℕ) → k ≤ n → run f a n ≡ run f a k ++ run f (a + k) (n - k)
+  run-cut f a n k h =
+      sym (take-append-drop k (run f a n))
+      ∙ ap₂ _++_ (take-run f a n k ∙ ap (run f a) (let e : min k n ≡ k = omega arith in e)) (drop-run f a n k)
 
   -- a list by its entries
   pub run-getD : (l : List A) (z : A) → run (λ i. getD l i z) 0 (length l) ≡ l

@@ -35,9 +35,13 @@ pub record Rule : Type 0 where
   pub m : ℕ → ℕ
   pub fails : Bool
 
--- the rule the other way round: a cell is an input position, M is walked, and nothing is searched for
+-- a rule without padding: a cell is an output position, and nothing is searched for
+abbrev pub bareRule : ℕ → (ℕ → ℕ) → (ℕ → ℕ) → Rule
+bareRule n l m = record { total = n; address = l; l = l; m = m; fails = false }
+
+-- the rule the other way round: a cell is an input position, and M is walked
 abbrev pub back : ℕ → Rule → Rule
-back n r = record { total = n; address = r .m; l = r .m; m = r .l; fails = false }
+back n r = bareRule n (r .m) (r .l)
 
 -- what the walk of a way goes along: L, over the cells, or M, over the input positions
 abbrev pub inWay : Way → ℕ → Rule → Rule
@@ -108,17 +112,21 @@ pub record Lawful (n : ℕ) (r : Rule) : Type 0 where
   pub list : keep (r .address) (inside n) 0 (r .total) ≡ run (r .l) 0 n
   pub small : r .total < 65536
 
+-- without padding, where L and M undo each other
+pub bare-lawful : {n : ℕ} {l m : ℕ → ℕ} → Perm n l m → n < 65536 → Lawful n (bareRule n l m)
+bare-lawful {n} {l} p h = record {
+  perm = p;
+  list = keep-bare l (inside n) 0 n (λ x lo hi. lt-ltb (l x) n (p .l-below x (omega arith)));
+  small = h;
+}
+
 module _ {n : ℕ} {r : Rule} (h : Lawful n r) where
   pub n-le : n ≤ r .total
   n-le = omega (arith, kept-or-padding (r .address) (inside n) 0 (r .total), ap length (h .list), length-run (r .l) 0 n)
 
   -- M is lawful where L is
   pub lawful-back : Lawful n (back n r)
-  lawful-back = record {
-    perm = swapped (h .perm);
-    list = keep-bare (r .m) (inside n) 0 n (λ x l o. lt-ltb (r .m x) n (h .perm .m-below x (omega arith)));
-    small = omega (arith, n-le, h .small);
-  }
+  lawful-back = bare-lawful (swapped (h .perm)) (omega (arith, n-le, h .small))
 
   pub lawful-in : (way : Way) → Lawful n (inWay way n r)
   lawful-in Interleaver = h
@@ -154,5 +162,6 @@ module _ {n : ℕ} {r : Rule} (h : Lawful n r) where
   pub table-is : (old : List ℕ) → n ≤ length old → (t : ℕ) → t < n → by (walkSlice n r 0 old) t ≡ r .l t
   unfolding walkSlice
   table-is old o t l =
-      by-run (r .l) n (walkSlice n r 0 old) (drop (length (walkList n r 0 (length old))) old)
+      by-run (r .l) 0 n (walkSlice n r 0 old) (drop (length (walkList n r 0 (length old))) old)
       (ap (λ (x : List ℕ). x ++ drop (length (walkList n r 0 (length old))) old) (whole-list (length old) o)) t l
+      ∙ ap (r .l) (zero-add t)

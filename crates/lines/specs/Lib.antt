@@ -1,3 +1,2 @@
 pub mod Appended
-pub mod Named
 pub mod Words

@@ -62,7 +62,7 @@ fn add_first(
 fn is_beside(i: usize) -> bool {
     let mut one = [0u8; LONGEST];
     let k = os::arg(i, &mut one);
-    lines::is_named(&one[..k])
+    named::is_named(&one[..k])
 }
 
 // The first argument that names a file, or how many arguments there are where none does.

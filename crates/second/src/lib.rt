@@ -61,8 +61,8 @@ fn group(bits: u32) -> usize {
 
 // m = s·(t/s) + (t + d·t/N) mod s, then L(t) = d·m - (N - 1)·(d·m/N).
 fn carrier_l(d: usize, n: usize, s: usize, t: usize) -> usize {
-    let turn = over(times(d, t), n);
-    let m = plus(times(s, over(t, s)), rest(plus(t, turn), s));
+    let row = over(times(d, t), n);
+    let m = plus(times(s, over(t, s)), rest(plus(t, row), s));
     let dm = times(d, m);
     minus(dm, times(minus(n, 1), over(dm, n)))
 }
@@ -70,8 +70,8 @@ fn carrier_l(d: usize, n: usize, s: usize, t: usize) -> usize {
 // m = (N/d)·(k mod d) + k/d, then M(k) = s·(m/s) + (m + N - d·m/N) mod s.
 fn carrier_m(d: usize, n: usize, s: usize, k: usize) -> usize {
     let m = plus(times(over(n, d), rest(k, d)), over(k, d));
-    let turn = over(times(d, m), n);
-    plus(times(s, over(m, s)), rest(minus(plus(m, n), turn), s))
+    let row = over(times(d, m), n);
+    plus(times(s, over(m, s)), rest(minus(plus(m, n), row), s))
 }
 
 // The formulas of the two steps, and the third: M(k) less the turn, modulo N, and L at t and the turn, modulo N.

@@ -1,6 +1,6 @@
 -- Exactly the sets of a listed size and stream, with what they must have beside them, are accepted: no line of the test applies to a size if and
--- only if it stands in the table that crate sizes counts out (specs/Profiles.antt). Each way goes by what specs/Listed.antt there shows of every
--- profile.
+-- only if it stands in the table that is counted out (specs/Profiles.antt of profiles). The one way goes by what specs/Listed.antt of sizes shows of
+-- every profile, the other by specs/Counted.antt of profiles.
 use mathlib.Core.Path.{_≡_, sym, subst}
 use mathlib.Core.Bool.{true, _&&_}
 use mathlib.Core.Logic.{_↔_}
@@ -10,14 +10,17 @@ use lib.Dec.{leb}
 use borrow.Author.Tests.{leb-true, not-false}
 use Rattle.laws.specs.Outcome.{done, Clear, done-clear, clear-done}
 use Rattle.laws.specs.Told.{NoneTrue, told-clear, clear-join, clear-parts}
-use Rattle.laws.specs.Members.{both, at-each, by-member}
+use Rattle.laws.specs.Members.{both, at-each, by-member, in-chained, of-chained}
 use Rattle.sets.specs.declared.Set.{Set}
 use Rattle.sizes.specs.declared.Size.{Size}
-use Rattle.sizes.specs.Size.{size, some, some-of, Entry, sizesOf, in-rows, in-gathered, of-gathered}
+use Rattle.profiles.specs.Entry.{some, some-of, Entry}
+use Rattle.profiles.specs.Profiles.{profiles, lastProfile, entryBy, bitsIn, sizeBy}
+use Rattle.profiles.specs.Counted.{HasEach, Counted, entry-counted}
+use Rattle.sizes.specs.Size.{size, sizesOf, in-rows}
 use Rattle.sets.specs.Set.{sizeOf}
-use Rattle.sizes.specs.Profiles.{profiles, listedSizes, lastProfile, entryBy, profileListed, bitsIn, bitsListed, sizeBy, sizeListed}
-use Rattle.sizes.specs.Listed.{HasEach, Agrees, all-listed, entry-listed}
-use Rattle.sizes.specs.Entered.{in-profiles, own-number}
+use Rattle.sizes.specs.Tests.{listedSizes, profileListed, bitsListed, sizeListed}
+use Rattle.sizes.specs.Listed.{EachPasses, all-pass}
+use Rattle.profiles.specs.Entered.{in-profiles, own-number}
 use Rattle.sets.specs.Stream.{streamListed, streamLines}
 use Rattle.sets.specs.Beside.{besideLines, besideSentences, beside-told}
 use Rattle.sets.specs.Verdict.{sizeLines, setLines, refusal, verdictOf}
@@ -27,7 +30,7 @@ abbrev pub Accepted : Set → Type 0
 Accepted s = verdictOf s ≡ done tt
 
 -- bits that pass have a row
-module _ (q : Entry) (a : Agrees q) (b : ℕ) (e : bitsIn (q .admitted) b ≡ true) where
+module _ (q : Entry) (a : Counted q) (b : ℕ) (e : bitsIn (q .admitted) b ≡ true) where
   -- with some size in it
   some-in : (m : ℕ) × List·Memᴰ (size (q .number) b m) (sizesOf q)
   some-in =
@@ -58,17 +61,17 @@ module _ (z : Size) (p : profileListed z ≡ true) (b : bitsListed z ≡ true) w
   in-table {m} i =
       let r = profile-range z p in
       subst (λ (p : ℕ). List·Memᴰ (size p (z .bits) m) listedSizes) (sym (own-number (z .profile) (r .0) (r .1)))
-      (in-gathered sizesOf profiles (in-profiles (z .profile)) i)
+      (in-chained sizesOf profiles (in-profiles (z .profile)) i)
 
   -- for listed bits of a listed profile some size is listed
   pub some-listed : (m : ℕ) × List·Memᴰ (size (z .profile) (z .bits) m) listedSizes
   unfolding bitsListed
-  some-listed = let m = some-in (entryBy (z .profile)) (entry-listed (z .profile)) (z .bits) b in (m .0, in-table (m .1))
+  some-listed = let m = some-in (entryBy (z .profile)) (entry-counted (z .profile)) (z .bits) b in (m .0, in-table (m .1))
 
   -- and N is, where it passes
   pub passing-listed : sizeListed z ≡ true → List·Memᴰ z listedSizes
   unfolding bitsListed sizeListed
-  passing-listed h = in-table (stands-in (entryBy (z .profile)) (entry-listed (z .profile)) (z .bits) b (z .n) h)
+  passing-listed h = in-table (stands-in (entryBy (z .profile)) (entry-counted (z .profile)) (z .bits) b (z .n) h)
 
 -- a listed size passes the three tests
 pub record Passing (z : Size) : Type 0 where
@@ -79,8 +82,8 @@ pub record Passing (z : Size) : Type 0 where
 pub listed-passing : (z : Size) → List·Memᴰ z listedSizes → Passing z
 unfolding listedSizes
 listed-passing z m =
-    let q = of-gathered sizesOf profiles m in
-    let p = both (profileListed z) (bitsListed z && sizeListed z) (by-member Agrees profiles all-listed (q .1) .passing (q .2)) in
+    let q = of-chained sizesOf profiles m in
+    let p = both (profileListed z) (bitsListed z && sizeListed z) (by-member EachPasses profiles all-pass (q .1) z (q .2)) in
     let b = both (bitsListed z) (sizeListed z) (p .1) in
     record { profile-passes = p .0; bits-pass = b .0; size-passes = b .1 }
 

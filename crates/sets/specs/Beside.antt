@@ -4,7 +4,7 @@ use Rattle.laws.specs.Outcome.{Line}
 use Rattle.laws.specs.Sentences.{Sentence, Told, none}
 use Rattle.sets.specs.declared.Set.{Set}
 use Rattle.sets.specs.Set.{sizeOf}
-use Rattle.sizes.specs.Profiles.{listedSizes}
+use Rattle.sizes.specs.Tests.{listedSizes}
 
 abbrev pub besideLines : Set → List Line
 besideLines s = []

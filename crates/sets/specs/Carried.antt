@@ -14,18 +14,18 @@ use Rattle.laws.specs.Outcome.{done}
 use Rattle.laws.specs.Members.{both, every, at-each}
 use Rattle.laws.specs.Sized.{Sized}
 use Rattle.sets.specs.declared.Set.{Set}
-use Rattle.sizes.specs.declared.Family.{Family}
-use Rattle.sizes.specs.declared.Family.the-variants.{Carrier, Spatial, Turbo}
+use Rattle.profiles.specs.declared.Family.{Family}
+use Rattle.profiles.specs.declared.Family.the-variants.{Carrier, Spatial, Turbo}
 use Rattle.sizes.specs.declared.Size.{Size}
 use Rattle.sizes.specs.Size.{size, allSizes, either-all}
 use Rattle.sets.specs.Set.{sizeOf, familyOf, isTurbo, numbersOf, rowsOf, rotationOf, groupOf}
 use Rattle.sets.specs.Stream.{stream-true}
-use Rattle.sizes.specs.Entered.{familyTag, families-apart, entered-is}
-use Rattle.sizes.specs.Profiles.{familyBy, numbersBy, groupBy, entryBy}
-use Rattle.sizes.specs.Profiles.{turboSizes, carriers, turbos, spatials, listedSizes}
-use Rattle.sizes.specs.Listed.{turbo-range}
+use Rattle.profiles.specs.Profiles.{familyBy, numbersBy, groupBy, entryBy, turboSizes, carriers, turbos, spatials}
+use Rattle.profiles.specs.Counted.{turbo-range}
+use Rattle.sizes.specs.Tests.{listedSizes}
 use Rattle.sets.specs.Verdict.{verdictOf}
 use Rattle.sets.specs.Admits.{accepted-listed, listed-range, accepted-stream}
+use Rattle.sets.specs.Numbered.{five-turbo}
 
 pub record Carried (s : Set) : Type 0 where
   pub sized : Sized (rowsOf s) (s .n) (groupOf s)
@@ -67,16 +67,6 @@ carried-by s e =
       small = leb-true (s .n) 1536 (u .0);
       below = ltb-true _ (s .n) (u .1);
     }
-
--- profile 5 is the turbo family
-pub five-turbo : (s : Set) → s .profile ≡ 5 → familyOf s ≡ Turbo
-unfolding familyOf
-five-turbo s e = families-apart _ _ (entered-is (λ q. s .profile ≡ 5 → familyTag (q .family) ≡ 2) (s .profile) (omega arith) e)
-
--- and no other profile is the turbo family
-pub turbo-five : (s : Set) → familyOf s ≡ Turbo → s .profile ≡ 5
-unfolding familyOf
-turbo-five s e = entered-is (λ q. familyTag (q .family) ≡ 2 → s .profile ≡ 5) (s .profile) (omega arith) (ap familyTag e)
 
 -- a turbo size
 turbo-one : {z : Size} → List·Memᴰ z (allSizes turbos) → (z .profile ≡ 5) × ((40 ≤ z .n) × (z .n ≤ 5114))

@@ -4,5 +4,6 @@ pub mod Beside
 pub mod Verdict
 pub mod Admits
 pub mod Listed
+pub mod Numbered
 pub mod Carried
 pub mod Refusals

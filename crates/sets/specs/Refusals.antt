@@ -1,5 +1,5 @@
--- The refusals of a set in the sentences of document 01, in its order: 1, 2, 3, 16, and what a set must have beside its size and stream; and that a
--- number is said exactly when its sentence is the first that holds. Lines of other calls may stand behind.
+-- The refusals of a set in the sentences of document 01, 1, 2, 3, of request 4, 16, and of what a set must have beside its size and stream, in that
+-- order; and that a number is said exactly when its sentence is the first that holds. Lines of other calls may stand behind.
 use Prim.Native.Nat.{ℕ, _≤_}
 use mathlib.Core.Bool.{true}
 use mathlib.Core.List.{List, [], _∷_, _++_, List·Memᴰ}
@@ -14,7 +14,8 @@ use Rattle.sets.specs.declared.Refusal.{Refusal}
 use Rattle.sizes.specs.declared.Size.{Size}
 use Rattle.sizes.specs.Size.{size}
 use Rattle.sets.specs.Set.{sizeOf}
-use Rattle.sizes.specs.Profiles.{listedSizes, lastProfile, profileListed, bitsListed}
+use Rattle.profiles.specs.Profiles.{lastProfile}
+use Rattle.sizes.specs.Tests.{listedSizes, profileListed, bitsListed}
 use Rattle.sets.specs.Stream.{streamSentences, stream-told}
 use Rattle.sets.specs.Beside.{besideSentences, beside-told}
 use Rattle.sets.specs.Verdict.{sizeLines, setLines, refusal, verdictOf, refusal-number}

@@ -1,12 +1,12 @@
--- The size of a set, its family, the numbers of its formulas, and s. Rests on Profiles of crate sizes. These are definitions.
+-- The size of a set, its family, the numbers of its formulas, and s. Rests on crate profiles. These are definitions.
 use Prim.Native.Nat.{ℕ}
 use mathlib.Core.Bool.{Bool, true, false}
 use Rattle.sizes.specs.declared.Size.{Size}
-use Rattle.sizes.specs.declared.Family.{Family}
-use Rattle.sizes.specs.declared.Family.the-variants.{Carrier, Spatial, Turbo}
-use Rattle.sizes.specs.declared.Numbers.{Numbers}
+use Rattle.profiles.specs.declared.Family.{Family}
+use Rattle.profiles.specs.declared.Family.the-variants.{Carrier, Spatial, Turbo}
+use Rattle.profiles.specs.declared.Numbers.{Numbers}
 use Rattle.sizes.specs.Size.{size}
-use Rattle.sizes.specs.Profiles.{familyBy, numbersBy, groupBy}
+use Rattle.profiles.specs.Profiles.{familyBy, numbersBy, groupBy}
 use Rattle.sets.specs.declared.Set.{Set}
 
 abbrev pub sizeOf : Set → Size

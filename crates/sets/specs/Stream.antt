@@ -10,9 +10,9 @@ use Rattle.laws.specs.Outcome.{Line, line}
 use Rattle.laws.specs.Sentences.{Sentence, sentence, Told, none}
 use Rattle.laws.specs.Told.{told-unless}
 use Rattle.laws.specs.Members.{both, at-each, oneOf, one-of}
-use Rattle.sizes.specs.Size.{Entry}
-use Rattle.sizes.specs.Profiles.{profiles, lastProfile, manyStreams, numbersBy}
-use Rattle.sizes.specs.Entered.{in-profiles, own-number, entered-is}
+use Rattle.profiles.specs.Entry.{Entry}
+use Rattle.profiles.specs.Profiles.{profiles, lastProfile, manyStreams, numbersBy}
+use Rattle.profiles.specs.Entered.{in-profiles, own-number, entered-is}
 use Rattle.sets.specs.declared.Set.{Set}
 use Rattle.sets.specs.Set.{numbersOf}
 

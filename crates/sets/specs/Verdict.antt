@@ -11,7 +11,7 @@ use Rattle.sets.specs.declared.Verdict.{Verdict}
 use Rattle.sets.specs.declared.Verdict.the-variants.{Accepted, Refused}
 use Rattle.sizes.specs.declared.Size.{Size}
 use Rattle.sets.specs.Set.{sizeOf}
-use Rattle.sizes.specs.Profiles.{profileListed, bitsListed, sizeListed}
+use Rattle.sizes.specs.Tests.{profileListed, bitsListed, sizeListed}
 use Rattle.sets.specs.Stream.{streamLines}
 use Rattle.sets.specs.Beside.{besideLines}
 

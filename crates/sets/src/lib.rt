@@ -4,8 +4,8 @@ ghost use Prim.Native.Nat.{_<_};
 ghost use Rattle.sets.specs.Set.{familyOf, isTurbo, isSpatial, numbersOf, groupOf};
 ghost use Rattle.sets.specs.Stream.{streamListed};
 ghost use Rattle.sets.specs.Verdict.{refusal, sayVerdict, verdictOf};
-use sizes::Family;
-use sizes::Numbers;
+use profiles::Family;
+use profiles::Numbers;
 use sizes::Size;
 
 // A profile, bits per carrier, the block's size N, and the spatial stream, which is 1 for a profile of one stream. Any numbers may be given.
@@ -31,7 +31,7 @@ pub enum Verdict {
 fn family_of(set: Set) -> Family
     ensures { λ r. ⌜ r ≡ familyOf set ⌝ }
 {
-    sizes::family_by(set.profile)
+    profiles::family_by(set.profile)
 }
 
 // Whether the family is the turbo interleaver's, and whether it is that of spatial streams. (Two questions of two answers each, since the compiler
@@ -62,7 +62,7 @@ pub fn is_spatial(set: Set) -> bool
 pub fn numbers_of(set: Set) -> Numbers
     ensures { λ r. ⌜ r ≡ numbersOf set ⌝ }
 {
-    sizes::numbers_by(set.profile)
+    profiles::numbers_by(set.profile)
 }
 
 // s, the group that the bits per carrier give, and its range.
@@ -70,7 +70,7 @@ pub fn group_of(set: Set) -> u32
     ensures { λ r. ⌜ r ≡ groupOf set ⌝ }
     ensures { λ r. ⌜ (0 < r) × (r < 4) ⌝ }
 {
-    sizes::group_by(set.bits)
+    profiles::group_by(set.bits)
 }
 
 // The refusal of a set with a number.

@@ -1,4 +1,3 @@
 pub mod Size
-pub mod Profiles
-pub mod Entered
+pub mod Tests
 pub mod Listed

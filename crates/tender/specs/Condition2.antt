@@ -1,6 +1,6 @@
 -- Condition 2 of the tender: exactly the listed parameter sets are accepted, and served; each symbol goes where the standard's formula sends it,
 -- and comes back; each index is used once; no symbol's value is read to decide where anything goes. Each theorem is a statement for a reader,
--- over the definitions that the public contracts cite; its proof is a citation. (Symbols of a width are in Symbols.antt, the stream in Stream.antt.)
+-- over the definitions that the public contracts cite; its proof is a citation. (Symbols of a width are in Symbols.antt, the DVB stream in Stream.antt.)
 use Prim.Native.Nat.{ℕ, _*_, _≤_, _<_}
 use mathlib.Core.List.{List, List·Memᴰ, map}
 use mathlib.Core.Logic.{_↔_, _≢_, _⊎_, inl, inr}
@@ -14,17 +14,14 @@ use Rattle.laws.specs.Perm.{Perm}
 use Rattle.laws.specs.Told.{NoneTrue}
 use Rattle.laws.specs.Walk.{Rule}
 use Rattle.sets.specs.declared.Set.{Set}
-use Rattle.sets.specs.Set.{familyOf, numbersOf, rowsOf, rotationOf, groupOf}
-use Rattle.sizes.specs.Profiles.{ofdm, ofdma, wlan, bench, turbo, ht20, ht40, familyBy}
-use Rattle.sizes.specs.declared.Family.{Family}
-use Rattle.sizes.specs.declared.Family.the-variants.{Carrier, Spatial}
-use Rattle.sizes.specs.Entered.{familyTag, AsEntered, entered-is, families-apart}
+use Rattle.sets.specs.Set.{rowsOf, rotationOf, groupOf}
+use Rattle.profiles.specs.Profiles.{ofdm, ofdma, wlan, bench, turbo, ht20, ht40}
 use Rattle.sizes.specs.Listed.{length-turbo}
 use Rattle.sets.specs.Listed.{entryOf, setsOf, listedSets, sets-of}
 use Rattle.sets.specs.Beside.{besideSentences}
 use Rattle.sets.specs.Verdict.{verdictOf}
 use Rattle.sets.specs.Listed as admitted
-use Rattle.sets.specs.Carried.{five-turbo}
+use Rattle.sets.specs.Numbered.{carrier-profile, five-turbo, spatial-profile, ht20-numbers, ht40-numbers}
 use Rattle.carrier.specs.Formula.{carrierL, carrierM}
 use Rattle.carrier.specs.Once.{carrier-once}
 use Rattle.carrier.specs.Third.{turn, spatialL, spatialM}
@@ -74,18 +71,6 @@ L s = rules.L s
 abbrev pub M : Set → ℕ → ℕ
 M s = rules.M s
 
--- (the family of a profile, by its number)
-family-is : (s : Set) (f : Family) → familyTag (familyBy (s .profile)) ≡ familyTag f → familyOf s ≡ f
-unfolding familyOf
-family-is s f e = families-apart (familyBy (s .profile)) f e
-
-pub carrier-profile : (s : Set) → s .profile < 5 → familyOf s ≡ Carrier
-carrier-profile s h = family-is s Carrier (entered-is (λ q. s .profile < 5 → familyTag (q .family) ≡ 0) (s .profile) (omega arith) h)
-
-pub spatial-profile : (s : Set) → (s .profile ≡ 6) ⊎ (s .profile ≡ 7) → familyOf s ≡ Spatial
-spatial-profile s (inl e) = family-is s Spatial (entered-is (λ q. s .profile ≡ 6 → familyTag (q .family) ≡ 1) (s .profile) (omega arith) e)
-spatial-profile s (inr e) = family-is s Spatial (entered-is (λ q. s .profile ≡ 7 → familyTag (q .family) ≡ 1) (s .profile) (omega arith) e)
-
 -- they are the carrier formulas for profiles 1 to 4 ..
 pub formulas-carrier : (s : Set) → s .profile < 5 → (L s ≡ carrierL (rowsOf s) (s .n) (groupOf s)) × (M s ≡ carrierM (rowsOf s) (s .n) (groupOf s))
 formulas-carrier s h =
@@ -98,24 +83,18 @@ formulas-turbo s e =
     let q = rule-is s (five-turbo s e) in
     (ap (λ (r : Rule). r .l) q, ap (λ (r : Rule). r .m) q)
 
--- (d and r of a profile, as the table has them)
-numbered : (s : Set) (p d r : ℕ) → AsEntered (λ q. s .profile ≡ p → (q .numbers .d ≡ d) × (q .numbers .r ≡ r)) (s .profile)
-    → s .profile ≡ p → (rowsOf s ≡ d) × (rotationOf s ≡ r)
-unfolding numbersOf
-numbered s p d r h e = entered-is (λ q. s .profile ≡ p → (q .numbers .d ≡ d) × (q .numbers .r ≡ r)) (s .profile) h e
-
 -- .. and for profiles 6 and 7 the three steps of IEEE 802.11n, with d 13 and r 11 at 20 MHz ..
 pub formulas-ht20 : (s : Set) → s .profile ≡ 6
     → (L s ≡ spatialL 13 (s .n) (groupOf s) (s .bits) 11 (s .stream)) × (M s ≡ spatialM 13 (s .n) (groupOf s) (s .bits) 11 (s .stream))
 formulas-ht20 s e =
-    let q = spatial-is s 13 11 (spatial-profile s (inl e)) (numbered s 6 13 11 (omega arith) e) in
+    let q = spatial-is s 13 11 (spatial-profile s (inl e)) (ht20-numbers s e) in
     (ap (λ (r : Rule). r .l) q, ap (λ (r : Rule). r .m) q)
 
 -- .. and d 18 and r 29 at 40 MHz
 pub formulas-ht40 : (s : Set) → s .profile ≡ 7
     → (L s ≡ spatialL 18 (s .n) (groupOf s) (s .bits) 29 (s .stream)) × (M s ≡ spatialM 18 (s .n) (groupOf s) (s .bits) 29 (s .stream))
 formulas-ht40 s e =
-    let q = spatial-is s 18 29 (spatial-profile s (inr e)) (numbered s 7 18 29 (omega arith) e) in
+    let q = spatial-is s 18 29 (spatial-profile s (inr e)) (ht40-numbers s e) in
     (ap (λ (r : Rule). r .l) q, ap (λ (r : Rule). r .m) q)
 
 -- whose turn is below N, so that nothing is taken from 0, and of stream 1 leaves the two steps as they are

@@ -1,6 +1,6 @@
 -- Condition 3 of the tender, for the address walks: cut anywhere, with refused calls between, joined, the outcome is that of one call, and of
--- the closed form. A way is a parameter: the walk for L is the interleaver's, the walk for M the deinterleaver's. (The streams' part is in
--- Stream.antt.)
+-- the closed form. A way is a parameter: the walk for L is the interleaver's, the walk for M the deinterleaver's. (The DVB stream's part is
+-- in Stream.antt.)
 use Prim.Native.Nat.{ℕ, min, _+_, _-_, _≤_, _<_}
 use mathlib.Core.List.{List, []}
 use mathlib.Core.Logic.{_⊎_}
@@ -17,7 +17,7 @@ use Rattle.laws.specs.Pieces as pieces
 use Rattle.laws.specs.Walk.{Rule}
 use Rattle.sets.specs.declared.Set.{Set}
 use Rattle.sets.specs.Set.{rowsOf, rotationOf, groupOf}
-use Rattle.sets.specs.Carried.{five-turbo}
+use Rattle.sets.specs.Numbered.{carrier-profile, five-turbo, spatial-profile}
 use Rattle.carrier.specs.Formula.{carrierL, carrierM}
 use Rattle.carrier.specs.Third.{spatialL, spatialM}
 use Rattle.wcdma_shape.specs.Rectangle.{cells}
@@ -28,7 +28,7 @@ use Rattle.walks.specs.Answer.{Values, walkedOf, walkList, walkCells, walkPaddi
 use Rattle.walks.specs.Whole.{behind, walk-l-is, walk-m-is}
 use Rattle.walks.specs.Calls.{Call, Handed, joined, ended, examined, rooms}
 use Rattle.walks.specs.Calls as calls
-use Rattle.tender.specs.Condition2.{Listed, admits, L, M, carrier-profile, spatial-profile}
+use Rattle.tender.specs.Condition2.{Listed, admits, L, M}
 
 -- any list of calls, the accepted ones handing the record on, refused ones of either way and with any record between: the joined list, the end and
 -- the cells are those of one walk with all their room

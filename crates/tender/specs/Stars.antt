@@ -14,7 +14,7 @@ use Rattle.laws.specs.Once.{inside}
 use Rattle.laws.specs.Position.{position}
 use Rattle.sets.specs.declared.Set.{Set}
 use Rattle.sets.specs.Set.{familyOf, numbersOf, groupOf}
-use Rattle.sizes.specs.Profiles.{entryBy}
+use Rattle.profiles.specs.Profiles.{entryBy}
 use Rattle.carrier.specs.Formula.{firstStep, secondStep, carrierM, backStep, lastStep, carrierL}
 use Rattle.carrier.specs.Third.{turn, thirdStep, spatialM, thirdBack, spatialL}
 use Rattle.wcdma_shape.specs.Rectangle.{rows, primes, firstPrime, prime, colsOf, cols, cells}

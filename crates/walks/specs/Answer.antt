@@ -1,4 +1,5 @@
--- What the calls on a set answer, either way: their lines in the order of document 01, 1, 2, 3, 16, 8, 4, 9, their values, and the slice after a walk.
+-- What the calls on a set answer, either way: their lines in the order of document 01, with request 4's 16 after 3: 1, 2, 3, 16, 8, 4, 9; their values, and
+-- the slice after a walk.
 -- A way is a parameter, so that both walks and both addresses have one definition.
 use Prim.Native.Nat.{ℕ, _+_}
 use mathlib.Core.List.{List, [], _∷_, _++_}

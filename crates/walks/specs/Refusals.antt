@@ -1,5 +1,5 @@
--- The refusals of the calls on a set in the sentences of document 01, in its order: 1, 2, 3, 16, 8, 4, 9. A number is said exactly when its
--- sentence is the first that holds, and then the slice is what it was.
+-- The refusals of the calls on a set in the sentences of document 01, and of request 4 for 16, in their order: 1, 2, 3, 16, 8, 4, 9. A number is said
+-- exactly when its sentence is the first that holds, and then the slice is what it was.
 use Prim.Native.Nat.{ℕ, _≤_, _<_}
 use mathlib.Core.Bool.{true, false, true≢false}
 use mathlib.Core.List.{List, [], _∷_, _++_}
@@ -12,10 +12,10 @@ use Rattle.laws.specs.Sentences.{Sentence, sentence, FirstTrue, Told, none, mor
 use Rattle.laws.specs.Told.{told-join}
 use Rattle.laws.specs.Walk.{Rule}
 use Rattle.sets.specs.declared.Set.{Set}
-use Rattle.sizes.specs.declared.Family.{Family}
-use Rattle.sizes.specs.declared.Family.the-variants.{Carrier, Spatial, Turbo}
+use Rattle.profiles.specs.declared.Family.{Family}
+use Rattle.profiles.specs.declared.Family.the-variants.{Carrier, Spatial, Turbo}
 use Rattle.sets.specs.Set.{familyOf}
-use Rattle.sets.specs.Carried.{five-turbo, turbo-five}
+use Rattle.sets.specs.Numbered.{five-turbo, turbo-five}
 use Rattle.sets.specs.Verdict.{refusal}
 use Rattle.sets.specs.Refusals.{setSentences, set-told, refusals-apart}
 use Rattle.wcdma_setup.specs.Search.{FewFound, fails-few, few-fails}

@@ -9,10 +9,10 @@ use Rattle.laws.specs.declared.Way.{Way}
 use Rattle.laws.specs.declared.Way.the-variants.{Interleaver, Deinterleaver}
 use Rattle.laws.specs.Outcome.{done, clear, first}
 use Rattle.sets.specs.declared.Set.{Set}
-use Rattle.sizes.specs.declared.Family.{Family}
-use Rattle.sizes.specs.declared.Family.the-variants.{Carrier, Spatial, Turbo}
+use Rattle.profiles.specs.declared.Family.{Family}
+use Rattle.profiles.specs.declared.Family.the-variants.{Carrier, Spatial, Turbo}
 use Rattle.sets.specs.Set.{familyOf}
-use Rattle.sets.specs.Carried.{turbo-five}
+use Rattle.sets.specs.Numbered.{turbo-five}
 use Rattle.wcdma_setup.specs.Found.{search-ends}
 use Rattle.walks.specs.declared.Walk.{Walk}
 use Rattle.families.specs.Rules.{familyRule, ruleOf, ruleIn, oneWay, barred}

@@ -8,7 +8,7 @@ use Rattle.laws.specs.declared.Way.{Way}
 use Rattle.laws.specs.declared.Way.the-variants.{Interleaver}
 use Rattle.laws.specs.Walk as along
 use Rattle.sets.specs.Set.{familyOf, numbersOf, groupOf}
-use Rattle.sizes.specs.Profiles.{entryBy}
+use Rattle.profiles.specs.Profiles.{entryBy}
 use Rattle.carrier.specs.Formula.{backStep, lastStep, carrierL}
 use Rattle.walks.specs.declared.Walk.{Walk}
 use Rattle.families.specs.Rules.{ruleOf}

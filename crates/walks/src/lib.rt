@@ -107,7 +107,7 @@ pub fn walk_l(w: Walk, out: &mut [u16]) -> Walked
     walk_by(Way::Interleaver, w, out)
 }
 
-// The walk for M, carrier profiles alone: a cell is an input position.
+// The walk for M, of every profile but 5: a cell is an input position.
 pub fn walk_m(w: Walk, out: &mut [u16]) -> Walked
     ensures answer { λ r. ⌜ sayWalked r ≡ walkedOf Deinterleaver w (length (now (out .entry))) ⌝ }
     ensures slice { λ r. ⌜ now (out .exit) ≡ sliceOf Deinterleaver w (now (out .entry)) ⌝ }

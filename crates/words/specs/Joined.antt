@@ -7,7 +7,7 @@ use mathlib.Core.List.{List, [], _∷_}
 use native.Mathlib.Omega.{arith}
 use lib.ListN.{length}
 use Rattle.lines.specs.Appended.{appended, Appended}
-use Rattle.lines.specs.Named.{isNamed}
+use Rattle.named.specs.Named.{isNamed}
 
 -- how a word is shown
 abbrev pub shown : List ℕ → List ℕ

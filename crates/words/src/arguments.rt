@@ -1,7 +1,7 @@
 // The program's arguments, as a line.
 use lines::ROOM;
 use lines::append;
-use lines::is_named;
+use named::is_named;
 ghost use Rattle.lines.specs.Appended.{Appended};
 ghost use Rattle.words.specs.Joined.{shown, Spaced, WithSome, WithArgument, Joined};
 

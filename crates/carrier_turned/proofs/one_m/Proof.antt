@@ -19,7 +19,7 @@ sub-t6 c = omega (arith, turn-lt (c .before .before .before .before .before .bef
 add-t7 : tie.Need-add-t7
 add-t7 c =
     let p = c .before .before .before .before .before .before .pre in
-    record { fits = omega (arith, p .small, c .before .if2 .taken, turn-lt p (c .before .before .before .turn-of .ensures)) }
+    record { fits = omega (arith, p .whole .small, c .before .if2 .taken, turn-lt p (c .before .before .before .turn-of .ensures)) }
 
 returns-2 : tie.Need-returns-2
 returns-2 c =

@@ -2,9 +2,10 @@
 use mathlib.Core.Path.{refl}
 use native.Mathlib.Omega.{arith}
 use borrow.Author.Needs.{needs}
+use Rattle.laws.specs.Lanes.{ran-same}
 use Rattle.laws.specs.Leaves.{leaf-past, ran-leaf}
 use Rattle.carrier.specs.Turned.{spatial-once}
-use Rattle.carrier_turned.specs.Turned.{turn-in, within, ran-l}
+use Rattle.carrier_turned.specs.Turned.{turn-in, within, l-by}
 use Rattle.carrier_turned.proofs.walk_l.Statement.{statement}
 use Rattle.carrier_turned.proofs.walk_l.Tie as tie
 
@@ -19,7 +20,7 @@ returns-2 : tie.Need-returns-2
 returns-2 c =
     let e = c .before .before .before .before .before in
     let p = e .before .before .before .pre in
-    ran-leaf (spatial-once (p .size) _ _ _ (turn-in p) .l-below) (omega (arith, e .if1 .left)) (ran-l _ (c .before .before .before .before .turn-of .ensures) (c .before .before .write-l .ensures))
+    ran-leaf (spatial-once (p .whole .size) _ _ _ (turn-in p) .l-below) (omega (arith, e .if1 .left)) (ran-same (l-by _ (c .before .before .before .before .turn-of .ensures)) (c .before .before .write-l .ensures))
 
 pub walk-l-spec : {M : Type 1} → statement M
 walk-l-spec = tie.close (tie.spec returns (λ c κs. search needs) write-l-requires (λ c. search needs) returns-2)

@@ -3,7 +3,7 @@ use mathlib.Core.Bool.{_&&_}
 use mathlib.Core.Path.{ap}
 use lib.Dec.{leb}
 use borrow.Author.Needs.{needs}
-use Rattle.sizes.specs.declared.Numbers.{Numbers}
+use Rattle.profiles.specs.declared.Numbers.{Numbers}
 use Rattle.sets.specs.Stream.{streamListed, stream-1}
 use Rattle.sets.proofs.stream_listed.Statement.{statement}
 use Rattle.sets.proofs.stream_listed.Tie as tie

@@ -1,7 +1,7 @@
 -- `families::carriers::address` is the set's L or M: the leaf's, at the set's d, N and s.
 use mathlib.Core.Path.{ap}
 use Rattle.laws.specs.declared.Way.the-variants.{Interleaver, Deinterleaver}
-use Rattle.sizes.specs.declared.Numbers.{Numbers}
+use Rattle.profiles.specs.declared.Numbers.{Numbers}
 use Rattle.families.specs.Families.{carrier-whole, carrier-rule, single-in}
 use borrow.Author.Needs.{needs}
 use Rattle.families.proofs.carriers.address.Statement.{statement}

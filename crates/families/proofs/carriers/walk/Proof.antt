@@ -1,7 +1,7 @@
 -- `families::carriers::walk` is the set's walk: the leaf's, at the set's d, N and s.
 use mathlib.Core.Path.{ap}
 use Rattle.laws.specs.declared.Way.the-variants.{Interleaver, Deinterleaver}
-use Rattle.sizes.specs.declared.Numbers.{Numbers}
+use Rattle.profiles.specs.declared.Numbers.{Numbers}
 use Rattle.families.specs.Taken.{had-leaf}
 use Rattle.families.specs.Families.{carrier-whole, carrier-rule, leaf-in, barred-is}
 use borrow.Author.Needs.{needs}

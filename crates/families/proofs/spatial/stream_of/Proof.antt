@@ -1,7 +1,7 @@
 -- `families::spatial::stream_of` is the set's block.
 use mathlib.Core.Path.{ap₂}
 use Prim.Native.Nat.{ℕ}
-use Rattle.sizes.specs.declared.Numbers.{Numbers}
+use Rattle.profiles.specs.declared.Numbers.{Numbers}
 use borrow.Author.Needs.{needs}
 use Rattle.families.proofs.spatial.stream_of.Statement.{statement}
 use Rattle.families.proofs.spatial.stream_of.Tie as tie

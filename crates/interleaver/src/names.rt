@@ -1,0 +1,60 @@
+// The named words of a command, as `stream=2`: numbers beside PROFILE, BITS and N. A further name is one more in `is_known`, and in what told.rt says
+// of names; the set asks for its number.
+use super::asked;
+use super::told;
+use check::same;
+use named::among;
+use named::name;
+use named::value;
+use numbers::Number;
+
+fn is_known(word: &[u8]) -> bool {
+    same(name(word), b"stream")
+}
+
+// Whether the named words of a line all have names that are known. The first that has not is told.
+pub fn all_known(line: &[u8]) -> bool {
+    let mut i = 0;
+    while i < line.len() {
+        let w = among(line, true, i);
+        if w.len() == 0 {
+            return true;
+        }
+        if !is_known(w) {
+            told::unknown(w);
+            return false;
+        }
+        i += 1;
+    }
+    true
+}
+
+// The first named word of a name, from the one on that is counted `from`; or the line's length, where there is none.
+fn find(line: &[u8], of: &[u8], from: usize) -> usize {
+    let mut i = from;
+    while i < line.len() {
+        let w = among(line, true, i);
+        if same(name(w), of) {
+            return i;
+        }
+        if w.len() == 0 {
+            return line.len();
+        }
+        i += 1;
+    }
+    line.len()
+}
+
+// The number of a name, or `otherwise` where no word has it. A second word of the name is told.
+pub fn number(line: &[u8], of: &[u8], otherwise: u32) -> Number {
+    let i = find(line, of, 0);
+    if i >= line.len() {
+        return Number::Value(otherwise);
+    }
+    if find(line, of, i + 1) < line.len() {
+        told::twice(of);
+        return Number::Wrong;
+    }
+    let w = among(line, true, i);
+    asked::read(value(w), of, w)
+}

@@ -1,0 +1,4 @@
+pub mod Entry
+pub mod Profiles
+pub mod Entered
+pub mod Counted

@@ -1,0 +1,42 @@
+-- A set by the number of its profile, for whoever speaks of one: its family, and d and r of the spatial profiles. Each is arithmetic over the table of
+-- crate profiles. Rests on Entered there.
+use Prim.Native.Nat.{_<_}
+use mathlib.Core.Logic.{_⊎_, inl, inr}
+use mathlib.Core.Path.{_≡_, ap}
+use native.Mathlib.Omega.{arith}
+use Rattle.profiles.specs.declared.Family.{Family}
+use Rattle.profiles.specs.declared.Family.the-variants.{Carrier, Spatial, Turbo}
+use Rattle.profiles.specs.Entered.{AsEntered, familyTag, families-apart, entered-is}
+use Rattle.sets.specs.declared.Set.{Set}
+use Rattle.sets.specs.Set.{familyOf, numbersOf, rowsOf, rotationOf}
+
+-- what every entry of some numbers has, a set has whose profile is one of them
+module _ (s : Set) (If : Type 0) where
+  family-where : (f : Family) → AsEntered (λ q. If → familyTag (q .family) ≡ familyTag f) (s .profile) → If → familyOf s ≡ f
+  unfolding familyOf
+  family-where f h i = families-apart _ f (entered-is (λ q. If → familyTag (q .family) ≡ familyTag f) (s .profile) h i)
+
+-- profiles 1 to 4 are of the carrier family, 5 is the turbo interleaver, 6 and 7 are of spatial streams
+pub carrier-profile : (s : Set) → s .profile < 5 → familyOf s ≡ Carrier
+carrier-profile s h = family-where s (s .profile < 5) Carrier (omega arith) h
+
+pub five-turbo : (s : Set) → s .profile ≡ 5 → familyOf s ≡ Turbo
+five-turbo s e = family-where s (s .profile ≡ 5) Turbo (omega arith) e
+
+pub spatial-profile : (s : Set) → (s .profile ≡ 6) ⊎ (s .profile ≡ 7) → familyOf s ≡ Spatial
+spatial-profile s (inl e) = family-where s (s .profile ≡ 6) Spatial (omega arith) e
+spatial-profile s (inr e) = family-where s (s .profile ≡ 7) Spatial (omega arith) e
+
+-- and no other profile is the turbo family
+pub turbo-five : (s : Set) → familyOf s ≡ Turbo → s .profile ≡ 5
+unfolding familyOf
+turbo-five s e = entered-is (λ q. familyTag (q .family) ≡ 2 → s .profile ≡ 5) (s .profile) (omega arith) (ap familyTag e)
+
+-- d and r at 20 and at 40 MHz
+pub ht20-numbers : (s : Set) → s .profile ≡ 6 → (rowsOf s ≡ 13) × (rotationOf s ≡ 11)
+unfolding numbersOf
+ht20-numbers s e = entered-is (λ q. s .profile ≡ 6 → (q .numbers .d ≡ 13) × (q .numbers .r ≡ 11)) (s .profile) (omega arith) e
+
+pub ht40-numbers : (s : Set) → s .profile ≡ 7 → (rowsOf s ≡ 18) × (rotationOf s ≡ 29)
+unfolding numbersOf
+ht40-numbers s e = entered-is (λ q. s .profile ≡ 7 → (q .numbers .d ≡ 18) × (q .numbers .r ≡ 29)) (s .profile) (omega arith) e
