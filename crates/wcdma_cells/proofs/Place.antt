@@ -16,7 +16,7 @@ use Rattle.wcdma_shape.specs.Powers.{root}
 use Rattle.wcdma_setup.specs.Numbers.{qOf}
 use Rattle.wcdma_shape.specs.Orders.{rowAt}
 use Rattle.wcdma_shape.specs.Shape.{rows-pos, rows-le, prime-big}
-use Rattle.wcdma_setup.specs.Post.{shortBy}
+use Rattle.wcdma_powers.specs.Post.{shortBy}
 use Rattle.wcdma.specs.Turbo.{entry, entryWith, origin}
 use Rattle.wcdma.specs.Law.{col-lt}
 use Rattle.wcdma.specs.Laid.{nextCol, Exponents, plain}

@@ -14,7 +14,7 @@ use Rattle.wcdma_shape.specs.declared.Shape.{Shape}
 use Rattle.wcdma_shape.specs.Rectangle.{rows, prime, cols, cells}
 use Rattle.wcdma_shape.specs.Powers.{power, root}
 use Rattle.wcdma_shape.specs.Post.{ShapeOf}
-use Rattle.wcdma_setup.specs.Post.{shortBy}
+use Rattle.wcdma_powers.specs.Post.{shortBy}
 use Rattle.wcdma.specs.Laid.{Exponents, Rows, plain}
 
 -- S, each power less what a column's number is less, with the rows

@@ -21,7 +21,8 @@ use Rattle.wcdma_shape.specs.Shape.{rows-pos, cols-high, prime-small}
 use Rattle.wcdma_shape.specs.Roots.{Root, prime-root}
 use Rattle.wcdma_shape.specs.Halves.{second-half}
 use Rattle.wcdma_shape.specs.Post.{ShapeOf}
-use Rattle.wcdma_setup.specs.Post.{NumbersOf, shortBy}
+use Rattle.wcdma_setup.specs.Post.{NumbersOf}
+use Rattle.wcdma_powers.specs.Post.{shortBy}
 use Rattle.wcdma.specs.Turbo.{addresses, turboL, turboRule}
 use Rattle.wcdma.specs.Law.{as-many, turbo-lawful}
 use Rattle.wcdma.specs.Walks.{walk-whole}

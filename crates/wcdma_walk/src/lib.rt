@@ -18,9 +18,9 @@ fn walk_by(shape: Shape, q: &[u32; 20], cell: usize, out: &mut [u16]) -> Leaf
 {
     let r = shape.r;
     let p = shape.p;
-    let less = wcdma_setup::short_by(shape.c, p);
+    let less = wcdma_powers::short_by(shape.c, p);
     let mut s = [0u16; 256];
-    wcdma_setup::powers(p as u32, shape.v, less, &mut s);
+    wcdma_powers::powers(p as u32, shape.v, less, &mut s);
     let full = wcdma_full::is_full(shape);
     let row = cell % r;
     let column = cell / r;

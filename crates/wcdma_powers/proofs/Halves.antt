@@ -8,7 +8,7 @@ use native.Mathlib.Nat.{eq-or-lt-of-le}
 use native.Mathlib.Omega.{arith}
 use lib.ListN.{getD, length, set}
 use lib.Seq.{getD-set-same, getD-set-other}
-use Rattle.wcdma_setup.specs.Post.{HalvesOf, PowersIn}
+use Rattle.wcdma_powers.specs.Post.{HalvesOf, PowersIn}
 use Rattle.wcdma_shape.specs.Powers.{power}
 use Rattle.wcdma_shape.specs.Roots.{power-lt, power-pos}
 

@@ -1,8 +1,8 @@
 -- `short_by` is 1 where there are p - 1 columns.
 use borrow.Author.Needs.{needs}
 use borrow.Author.Tests.{eq-eqb, ne-eqb}
-use Rattle.wcdma_setup.proofs.short_by.Statement.{statement}
-use Rattle.wcdma_setup.proofs.short_by.Tie as tie
+use Rattle.wcdma_powers.proofs.short_by.Statement.{statement}
+use Rattle.wcdma_powers.proofs.short_by.Tie as tie
 
 sub-if1 : tie.Need-sub-if1
 sub-if1 c = search needs

@@ -8,12 +8,12 @@ use mathlib.Core.Path.{_∙_, _≡_, ap, refl}
 use native.Mathlib.Nat.{mod-lt}
 use native.Mathlib.Omega.{arith}
 use Rattle.laws.specs.Entries.{fill-more}
-use Rattle.wcdma_setup.proofs.Halves.{both-halves}
-use Rattle.wcdma_setup.proofs.Steps.{power-next}
+use Rattle.wcdma_powers.proofs.Halves.{both-halves}
+use Rattle.wcdma_powers.proofs.Steps.{power-next}
 use Rattle.wcdma_shape.specs.Powers.{power}
 use Rattle.wcdma_shape.specs.Roots.{power-lt, power-pos}
-use Rattle.wcdma_setup.proofs.powers.Statement.{statement}
-use Rattle.wcdma_setup.proofs.powers.Tie as tie
+use Rattle.wcdma_powers.proofs.powers.Statement.{statement}
+use Rattle.wcdma_powers.proofs.powers.Tie as tie
 
 abbrev Inv-loop : tie.InvT-loop
 Inv-loop p v less s₀ half last₀ x₀ s last x = (x ≤ half) × (length s ≡ 256) × (last < p) × (last ≡ power p v x) × ((y : ℕ) → y < x → getD s y 0 ≡ power p v y - less)

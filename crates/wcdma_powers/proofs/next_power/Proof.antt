@@ -3,8 +3,8 @@ use Prim.Native.Nat.{_*_}
 use borrow.Author.Needs.{needs}
 use native.Mathlib.Nat.{mod-lt}
 use native.Mathlib.Omega.{arith}
-use Rattle.wcdma_setup.proofs.next_power.Statement.{statement}
-use Rattle.wcdma_setup.proofs.next_power.Tie as tie
+use Rattle.wcdma_powers.proofs.next_power.Statement.{statement}
+use Rattle.wcdma_powers.proofs.next_power.Tie as tie
 
 times-requires : tie.Need-times-requires
 times-requires c κs = search needs

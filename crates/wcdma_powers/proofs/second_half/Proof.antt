@@ -5,10 +5,10 @@ use borrow.Author.Needs.{needs}
 use lib.ListN.{length, length-set}
 use mathlib.Core.Path.{_≡_, ap, refl}
 use native.Mathlib.Omega.{arith}
-use Rattle.wcdma_setup.proofs.Halves.{one-more}
-use Rattle.wcdma_setup.specs.Post.{HalvesOf}
-use Rattle.wcdma_setup.proofs.second_half.Statement.{statement}
-use Rattle.wcdma_setup.proofs.second_half.Tie as tie
+use Rattle.wcdma_powers.proofs.Halves.{one-more}
+use Rattle.wcdma_powers.specs.Post.{HalvesOf}
+use Rattle.wcdma_powers.proofs.second_half.Statement.{statement}
+use Rattle.wcdma_powers.proofs.second_half.Tie as tie
 
 abbrev Inv-loop : tie.InvT-loop
 Inv-loop top half s₀ x₀ s x = (x ≤ half) × (length s ≡ 256) × HalvesOf top half x s₀ s

@@ -3,9 +3,9 @@ use Prim.Native.Nat.{ℕ, _≤_, _<_}
 use borrow.Author.Needs.{needs}
 use mathlib.Core.Path.{_≡_}
 use native.Mathlib.Omega.{arith}
-use Rattle.wcdma_setup.proofs.Steps.{Times, once, times-sum, each-root}
-use Rattle.wcdma_setup.proofs.times.Statement.{statement}
-use Rattle.wcdma_setup.proofs.times.Tie as tie
+use Rattle.wcdma_powers.proofs.Steps.{Times, once, times-sum, each-root}
+use Rattle.wcdma_powers.proofs.times.Statement.{statement}
+use Rattle.wcdma_powers.proofs.times.Tie as tie
 
 -- n times the last power of a call
 abbrev Is : tie.Start → ℕ → ℕ → Type 0
