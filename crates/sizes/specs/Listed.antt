@@ -2,15 +2,15 @@
 -- entry but the turbo one, where it is shown. (That every size that passes is counted out, specs/Counted.antt of profiles shows.) Rests on Tests.
 use mathlib.Core.Path.{_≡_, refl, sym, ap, _∙_}
 use mathlib.Core.Bool.{Bool, true, _&&_}
-use mathlib.Core.List.{List, [], _∷_, _++_, map, append-nil, List·Memᴰ, List·Memᴰ·head, List·Memᴰ·tail, List·Memᴰ·eq-of-singleton, Memᴰ·of-map}
+use mathlib.Core.List.{_++_, map, append-nil, List·Memᴰ, List·Memᴰ·head, List·Memᴰ·tail, List·Memᴰ·eq-of-singleton, Memᴰ·of-map}
 use Prim.Native.Nat.{ℕ, max, _+_, _*_, _/_, _<_}
 use native.Mathlib.Nat.{mul-pos, mul-le-mul-right, le-of-lt}
 use native.Mathlib.Omega.{arith}
-use lib.Dec.{leb, ltb, eqb}
+use lib.Dec.{ltb, eqb}
 use lib.ListN.{length, length-map}
 use borrow.Author.Tests.{le-leb, ltb-true, eqb-true}
 use Rattle.laws.specs.Run.{length-run}
-use Rattle.laws.specs.Members.{both, every, at-each, All, all-join, all-tested, by-member, oneOf, one-of}
+use Rattle.laws.specs.Members.{both, every, at-each, All, all-join, all-tested, oneOf, one-of}
 use Rattle.profiles.specs.declared.Bits.{Bits}
 use Rattle.profiles.specs.declared.Bits.the-variants as kinds
 use Rattle.profiles.specs.declared.Form.{Form}

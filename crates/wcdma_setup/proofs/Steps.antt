@@ -1,14 +1,26 @@
 -- One turn of the loop that finds the numbers q.
-use Prim.Native.Nat.{ℕ, suc, _+_, _-_, _≤_, _<_}
+use Prim.Native.Nat.{ℕ, zero, suc, _+_, _-_, _<_}
 use mathlib.Core.Bool.{true, false}
-use mathlib.Core.Path.{_≡_, ap, sym, _∙_}
+use mathlib.Core.Path.{_≡_, refl, ap, _∙_}
+use native.Mathlib.Numerals.{add-one}
 use native.Mathlib.Omega.{arith}
 use borrow.Author.Tests.{eq-eqb, ne-eqb}
 use Rattle.wcdma_setup.specs.Numbers.{nextQ, qOf, allFound}
 
-pub q-next : (m i last : ℕ) → 1 ≤ i → last ≡ qOf m (i - 1) → nextQ m last ≡ qOf m i
+pub q-next : (m i last : ℕ) → last ≡ qOf m i → nextQ m last ≡ qOf m (i + 1)
 unfolding qOf
-q-next m i last h e = rw e (sym (ap (qOf m) (let w : i ≡ suc (i - 1) = omega arith in w)))
+q-next m i last e = rw (e, add-one)
+
+-- the first is what comes after 5, as after 1
+pub first-next : (m : ℕ) → nextQ m 5 ≡ qOf m 1
+unfolding qOf nextQ
+first-next m = refl
+
+-- what is found after a number is found after any that has the same next
+pub found-same : (m a b n : ℕ) → nextQ m b ≡ nextQ m a → allFound m a n ≡ allFound m b n
+unfolding allFound
+found-same m a b zero e = refl
+found-same m a b (suc n) e = rw e
 
 pub found-step : (m q r i next : ℕ) → next ≡ nextQ m q → (next ≡ 0 → ⊥) → i < r → allFound m q (r - i) ≡ allFound m next (r - (i + 1))
 unfolding allFound

@@ -1,5 +1,5 @@
--- `find_numbers` finds the numbers q row by row. The invariant: those below i stand in their places, last is the latest, and all are found exactly
--- where the rest are found after it.
+-- `find_numbers` finds the numbers q row by row. The invariant: those below i stand in their places, what comes after last is q(i), and all are found
+-- exactly where the rest are found after it.
 use Prim.Native.Nat.{_%_, _+_, _-_, _<_, _≤_, ℕ}
 use borrow.Author.Needs.{needs}
 use lib.ListN.{getD, length, length-set}
@@ -8,15 +8,15 @@ use mathlib.Core.Bool.{false≢true}
 use mathlib.Core.Path.{_∙_, _≡_, ap, refl, sym}
 use native.Mathlib.Omega.{arith}
 use Rattle.laws.specs.Entries.{fill-more}
-use Rattle.wcdma_setup.proofs.Steps.{found-end, found-not, found-step, q-next}
-use Rattle.wcdma_setup.specs.Numbers.{allFound, qOf}
+use Rattle.wcdma_setup.proofs.Steps.{first-next, found-end, found-not, found-same, found-step, q-next}
+use Rattle.wcdma_setup.specs.Numbers.{allFound, nextQ, qOf}
 use Rattle.wcdma_setup.proofs.find_numbers.Statement.{statement}
 use Rattle.wcdma_setup.proofs.find_numbers.Tie as tie
 
 abbrev Inv-loop : tie.InvT-loop
 Inv-loop m r q₀ last₀ i₀ q last i =
     (1 ≤ i) × (i ≤ r) × (length q ≡ 20) × ((y : ℕ) → y < i → getD q y 0 ≡ qOf m y)
-    × (last ≡ qOf m (i - 1)) × (last % 2 ≡ 1) × (allFound m 1 (r - 1) ≡ allFound m last (r - i))
+    × (nextQ m last ≡ qOf m i) × (last % 2 ≡ 1) × (allFound m 1 (r - 1) ≡ allFound m last (r - i)) × (5 ≤ last)
 
 abbrev μ-loop : tie.MeasureT-loop
 μ-loop m r q₀ last₀ i₀ q last i = r - i
@@ -31,13 +31,14 @@ loop-holds c = (
   omega (arith, c .pre .some),
   simp length-set (c .pre .long),
   (λ y h. let e : y ≡ 0 = omega arith in rw e (getD-set-same (c .args .q .now) 0 1 0 (omega (arith, c .pre .long)))),
+  first-next (c .args .m),
   refl,
-  refl,
-  refl,
+  found-same (c .args .m) 1 5 (c .args .r - 1) (first-next (c .args .m)),
+  omega arith,
 )
 
 next-q-requires : tie.Need-next-q-requires Inv-loop μ-loop
-next-q-requires c κs = c .before .loop .inv .5
+next-q-requires c κs = (c .before .loop .inv .7, c .before .loop .inv .5)
 
 returns : tie.Need-returns Inv-loop μ-loop
 returns c =
@@ -65,14 +66,15 @@ loop-again c =
     let t = c .before .before .loop-test .taken in
     let f = c .before .before .before .before .pre .few in
     let e = c .before .next-q .ensures .next-is in
-    let n = e ∙ q-next _ (l .i) (l .last) (l .inv .0) (l .inv .4) in (
+    let n = e ∙ l .inv .4 in (
       omega arith,
       omega arith,
       simp length-set (l .inv .2),
       fill-more (qOf _) (l .q) (l .i) _ (omega (arith, l .inv .2)) n (l .inv .3),
-      n ∙ ap (qOf _) (let w : l .i ≡ l .i + 1 - 1 = omega arith in w),
+      q-next _ (l .i) _ n,
       c .before .next-q .ensures .odd (c .if1 .left),
       l .inv .6 ∙ found-step _ (l .last) _ (l .i) _ e (c .if1 .left) t,
+      c .before .next-q .ensures .high (c .if1 .left),
     )
 
 returns-2 : tie.Need-returns-2 Inv-loop μ-loop

@@ -5,7 +5,7 @@ use borrow.Author.Needs.{needs}
 use mathlib.Core.Bool.{true}
 use mathlib.Core.Logic.{⊎-elim}
 use mathlib.Core.Path.{_∙_, _≡_, ap, refl, sym}
-use native.Mathlib.Nat.{mul-le-mul}
+use native.Mathlib.Nat.{mul-le-mul, eq-or-lt-of-le}
 use native.Mathlib.Omega.{arith}
 use Rattle.wcdma_setup.proofs.Search.{candidate-low, candidate-odd, next-composite, next-end, next-found, next-shared, odd-end, odd-found, odd-not, odd-prime, oddTest, small-root, start-high, start-low}
 use Rattle.wcdma_setup.specs.Numbers.{isPrime, nextIn, nextQ}
@@ -25,9 +25,12 @@ abbrev μ-candidates : tie.MeasureT-candidates
 μ-candidates m last q₀ q = 89 - q
 
 candidates-holds : tie.Need-candidates-holds Inv-loop μ-loop Inv-candidates μ-candidates
-candidates-holds c =
-    ⊎-elim (λ w. (start-low _ _ (w .0 .taken) ∙ rw (w .1), omega (arith, w .1), ap (λ (x : ℕ). x % 2) (w .1)))
-    (λ w. (start-high _ _ (w .0 .left) ∙ rw (w .1), omega (arith, w .1, w .0 .left), ap (λ (x : ℕ). x % 2) (w .1) ∙ c .before .pre)) (c .if1 .came)
+candidates-holds c = (
+  ⊎-elim (λ e. start-low (c .args .m) (c .args .last) (omega arith) ∙ ap (λ (x : ℕ). nextIn (c .args .m) (suc x) (89 - x)) e)
+      (λ l. start-high (c .args .m) (c .args .last) l) (eq-or-lt-of-le (c .pre .0)),
+  c .pre .0,
+  c .pre .1,
+)
 
 add-q : tie.Need-add-q Inv-loop μ-loop Inv-candidates μ-candidates
 add-q c = search needs
@@ -40,46 +43,46 @@ odd : (c : tie.At-candidates Inv-loop μ-loop Inv-candidates μ-candidates) → 
 odd c h = candidate-odd 0 (c .candidates .q) (c .candidates .inv .1) h (c .candidates .inv .2)
 
 loop-holds : tie.Need-loop-holds Inv-loop μ-loop Inv-candidates μ-candidates
-loop-holds c = let o = c .before .before in (odd-prime (o .candidates .q + 2) (omega (arith, o .candidates .inv .1)) (low o (c .before .if2 .left)) (odd o (c .before .if2 .left)), omega arith, omega arith)
+loop-holds c = let o = c .before in (odd-prime (o .candidates .q + 2) (omega (arith, o .candidates .inv .1)) (low o (c .if1 .left)) (odd o (c .if1 .left)), omega arith, omega arith)
 
 mul-loop : tie.Need-mul-loop Inv-loop μ-loop Inv-candidates μ-candidates
 mul-loop c = let h : c .loop .d * c .loop .d ≤ 11 * 11 = mul-le-mul (c .loop .inv .2) (c .loop .inv .2) in omega arith
 
-rem-if3 : tie.Need-rem-if3 Inv-loop μ-loop Inv-candidates μ-candidates
-rem-if3 c = search needs
+rem-if2 : tie.Need-rem-if2 Inv-loop μ-loop Inv-candidates μ-candidates
+rem-if2 c = search needs
 
 candidates-less : tie.Need-candidates-less Inv-loop μ-loop Inv-candidates μ-candidates
 candidates-less c = search needs
 
 candidates-again : tie.Need-candidates-again Inv-loop μ-loop Inv-candidates μ-candidates
 candidates-again c =
-    let o = c .before .before .before .before .before in
+    let o = c .before .before .before .before in
     let l = c .before .before .loop in
-    let t = c .before .before .before .before .if2 .left in
-    (o .candidates .inv .0 ∙ next-composite _ (o .candidates .q) (o .candidates .inv .1) t (o .candidates .inv .2) (l .inv .0 ∙ odd-found (o .candidates .q + 2) (l .d) (c .before .loop-test .taken) (low o t) (c .if3 .taken)), omega (arith, o .candidates .inv .1), odd o t)
+    let t = c .before .before .before .if1 .left in
+    (o .candidates .inv .0 ∙ next-composite _ (o .candidates .q) (o .candidates .inv .1) t (o .candidates .inv .2) (l .inv .0 ∙ odd-found (o .candidates .q + 2) (l .d) (c .before .loop-test .taken) (low o t) (c .if2 .taken)), omega (arith, o .candidates .inv .1), odd o t)
 
 add-d : tie.Need-add-d Inv-loop μ-loop Inv-candidates μ-candidates
 add-d c = search needs
 
 loop-less : tie.Need-loop-less Inv-loop μ-loop Inv-candidates μ-candidates
 loop-less c =
-    let o = c .before .before .before .before .before in
-    let s = small-root (c .before .before .loop .d) (o .candidates .q + 2) (c .before .loop-test .taken) (low o (c .before .before .before .before .if2 .left)) in
+    let o = c .before .before .before .before in
+    let s = small-root (c .before .before .loop .d) (o .candidates .q + 2) (c .before .loop-test .taken) (low o (c .before .before .before .if1 .left)) in
     omega arith
 
 loop-again : tie.Need-loop-again Inv-loop μ-loop Inv-candidates μ-candidates
 loop-again c =
-    let o = c .before .before .before .before .before in
+    let o = c .before .before .before .before in
     let l = c .before .before .loop in
-    let t = low o (c .before .before .before .before .if2 .left) in
+    let t = low o (c .before .before .before .if1 .left) in
     let s = small-root (l .d) (o .candidates .q + 2) (c .before .loop-test .taken) t in
-    (l .inv .0 ∙ odd-not (o .candidates .q + 2) (l .d) (c .before .loop-test .taken) t (c .if3 .left), omega arith, omega arith)
+    (l .inv .0 ∙ odd-not (o .candidates .q + 2) (l .d) (c .before .loop-test .taken) t (c .if2 .left), omega arith, omega arith)
 
 gcd-of-requires : tie.Need-gcd-of-requires Inv-loop μ-loop Inv-candidates μ-candidates
 gcd-of-requires c κs = search needs
 
 -- the candidate after the inner loop is a prime
-is-prime : (c : tie.After-loop Inv-loop μ-loop Inv-candidates μ-candidates) → isPrime (c .before .before .before .before .candidates .q + 2) ≡ true
+is-prime : (c : tie.After-loop Inv-loop μ-loop Inv-candidates μ-candidates) → isPrime (c .before .before .before .candidates .q + 2) ≡ true
 is-prime c = c .before .loop .inv .0 ∙ odd-end _ (c .before .loop .d) (c .loop-test .left)
 
 candidates-less-2 : tie.Need-candidates-less-2 Inv-loop μ-loop Inv-candidates μ-candidates
@@ -87,18 +90,18 @@ candidates-less-2 c = search needs
 
 candidates-again-2 : tie.Need-candidates-again-2 Inv-loop μ-loop Inv-candidates μ-candidates
 candidates-again-2 c =
-    let o = c .before .before .before .before .before .before in
-    let t = c .before .before .before .before .before .if2 .left in
-    (o .candidates .inv .0 ∙ next-shared _ (o .candidates .q) (o .candidates .inv .1) t (o .candidates .inv .2) (is-prime (c .before .before)) (λ e. c .if4 .left (c .before .gcd-of .ensures ∙ e)), omega (arith, o .candidates .inv .1), odd o t)
+    let o = c .before .before .before .before .before in
+    let t = c .before .before .before .before .if1 .left in
+    (o .candidates .inv .0 ∙ next-shared _ (o .candidates .q) (o .candidates .inv .1) t (o .candidates .inv .2) (is-prime (c .before .before)) (λ e. c .if3 .left (c .before .gcd-of .ensures ∙ e)), omega (arith, o .candidates .inv .1), odd o t)
 
 returns : tie.Need-returns Inv-loop μ-loop Inv-candidates μ-candidates
-returns c = record { next-is = sym (c .before .candidates .inv .0 ∙ next-end _ _ (c .if2 .taken)); odd = λ n. absurd (n refl) }
+returns c = record { next-is = sym (c .before .candidates .inv .0 ∙ next-end _ _ (c .if1 .taken)); odd = λ n. absurd (n refl); high = λ n. absurd (n refl) }
 
 returns-2 : tie.Need-returns-2 Inv-loop μ-loop Inv-candidates μ-candidates
 returns-2 c =
-    let o = c .before .before .before .before .before .before in
-    let t = c .before .before .before .before .before .if2 .left in
-    record { next-is = sym (o .candidates .inv .0 ∙ next-found _ (o .candidates .q) (o .candidates .inv .1) t (o .candidates .inv .2) (is-prime (c .before .before)) (sym (c .before .gcd-of .ensures) ∙ c .if4 .taken)); odd = λ n. odd o t }
+    let o = c .before .before .before .before .before in
+    let t = c .before .before .before .before .if1 .left in
+    record { next-is = sym (o .candidates .inv .0 ∙ next-found _ (o .candidates .q) (o .candidates .inv .1) t (o .candidates .inv .2) (is-prime (c .before .before)) (sym (c .before .gcd-of .ensures) ∙ c .if3 .taken)); odd = λ n. odd o t; high = λ n. omega (arith, o .candidates .inv .1) }
 
 pub next-q-spec : {M : Type 1} → statement M
 next-q-spec =
@@ -112,7 +115,7 @@ next-q-spec =
     add-q
     loop-holds
     mul-loop
-    rem-if3
+    rem-if2
     candidates-less
     candidates-again
     add-d
