@@ -157,17 +157,18 @@ pub fn address(d: usize, n: usize, s: usize, t: usize) -> usize
     RowSpot::new(d, s, row, col).address()
 }
 
-// Writes L from a cell on, as far as there is room and cells; gives back how many. stop is where the row ends, or the room.
+// Writes L from a cell on, as far as there is room and cells; gives back how many. stop is where the row ends, or the room. The set-up divides in 32
+// bits, which every number of a block fits; in 64 a processor takes longer, or asks first.
 pub fn write(d: usize, n: usize, s: usize, cell: usize, out: &mut [u16]) -> usize
     requires { ⌜ Block d n s cell ⌝ }
     ensures { λ r. ⌜ Ran (carrierL d n s) n cell (now (out .entry)) (now (out .exit)) r ⌝ }
 {
     let count = least(out.len(), n - cell);
-    let c = n / d;
+    let c = (n as u32 / d as u32) as usize;
     let top = d * (s - 1);
     let group = d * s;
-    let mut row = cell / c;
-    let mut col = cell % c;
+    let mut row = (cell as u32 / c as u32) as usize;
+    let mut col = (cell as u32 % c as u32) as usize;
     let mut stop = least(count, c - col);
     let mut at = RowSpot::new(d, s, row, col);
     let mut i = 0;

@@ -1,6 +1,6 @@
 -- `carrier_rows::write` writes L from any cell on, row by row. The loop's invariant is the law of lanes, and where the row or the room ends; the
 -- measure is what is left to write.
-use Prim.Native.Nat.{min, _+_, _-_, _≤_}
+use Prim.Native.Nat.{min, _+_, _-_, _/_, _≤_}
 use mathlib.Core.Path.{_≡_, refl, sym, ap, _∙_}
 use native.Mathlib.Nat.{mod-lt, div-le-self, le-of-lt, zero-add}
 use native.Mathlib.Omega.{arith}
@@ -23,8 +23,18 @@ sub-least c = c .before .pre .cell-in
 least-requires : tie.Need-least-requires Inv-loop μ-loop
 least-requires c κs = tt
 
+-- (what is divided, and what by, fits 32 bits)
+cast-c : tie.Need-cast-c Inv-loop μ-loop
+cast-c c = omega (arith, c .before .before .pre .small)
+
+cast-c-2 : tie.Need-cast-c-2 Inv-loop μ-loop
+cast-c-2 c = let b = c .before .before .pre in omega (arith, d-le (b .size), b .small)
+
 div-c : tie.Need-div-c Inv-loop μ-loop
 div-c c = c .before .before .pre .size .d-pos
+
+cast-c-3 : tie.Need-cast-c-3 Inv-loop μ-loop
+cast-c-3 c = let b = c .before .before in omega (arith, div-le-self (b .args .n) (b .args .d), b .pre .small)
 
 sub-top : tie.Need-sub-top Inv-loop μ-loop
 sub-top c = c .before .before .pre .size .s-pos
@@ -35,11 +45,33 @@ mul-top c = let b = c .before .before .pre in omega (arith, top-fits (b .size), 
 mul-group : tie.Need-mul-group Inv-loop μ-loop
 mul-group c = let b = c .before .before .pre in omega (arith, group-le (b .size), b .small)
 
+cast-row : tie.Need-cast-row Inv-loop μ-loop
+cast-row c = let b = c .before .before .pre in omega (arith, b .cell-in, b .small)
+
+cast-row-2 : tie.Need-cast-row-2 Inv-loop μ-loop
+cast-row-2 c = let b = c .before .before in omega (arith, div-le-self (b .args .n) (b .args .d), b .pre .small)
+
 div-row : tie.Need-div-row Inv-loop μ-loop
 div-row c = row-pos (c .before .before .pre .size)
 
+cast-row-3 : tie.Need-cast-row-3 Inv-loop μ-loop
+cast-row-3 c =
+    let b = c .before .before in
+    omega (arith, div-le-self (b .args .cell) (b .args .n / b .args .d), b .pre .cell-in, b .pre .small)
+
+cast-col : tie.Need-cast-col Inv-loop μ-loop
+cast-col c = let b = c .before .before .pre in omega (arith, b .cell-in, b .small)
+
+cast-col-2 : tie.Need-cast-col-2 Inv-loop μ-loop
+cast-col-2 c = let b = c .before .before in omega (arith, div-le-self (b .args .n) (b .args .d), b .pre .small)
+
 rem-col : tie.Need-rem-col Inv-loop μ-loop
 rem-col c = row-pos (c .before .before .pre .size)
+
+cast-col-3 : tie.Need-cast-col-3 Inv-loop μ-loop
+cast-col-3 c =
+    let b = c .before .before in
+    omega (arith, mod-lt (b .args .cell) (row-pos (b .pre .size)), div-le-self (b .args .n) (b .args .d), b .pre .small)
 
 sub-least-2 : tie.Need-sub-least-2 Inv-loop μ-loop
 sub-least-2 c = le-of-lt (mod-lt _ (row-pos (c .before .before .pre .size)))
@@ -118,5 +150,5 @@ returns c = lanes-all (c .before .loop .inv .0) (c .loop-test .left) (c .before 
 pub write-spec : {M : Type 1} → statement M
 write-spec =
     tie.close
-    (tie.spec Inv-loop μ-loop sub-least least-requires div-c sub-top mul-top mul-group div-row rem-col sub-least-2 least-requires-2 new-requires
-    loop-holds along-requires next-row-requires add-row add-least least-requires-3 loop-less loop-again same-length returns)
+    (tie.spec Inv-loop μ-loop sub-least least-requires cast-c cast-c-2 div-c cast-c-3 sub-top mul-top mul-group cast-row cast-row-2 div-row cast-row-3
+    cast-col cast-col-2 rem-col cast-col-3 sub-least-2 least-requires-2 new-requires loop-holds along-requires next-row-requires add-row add-least least-requires-3 loop-less loop-again same-length returns)
