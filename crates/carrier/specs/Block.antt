@@ -1,4 +1,4 @@
--- What the leaf functions of carrier_rows and carrier_columns require: a block that the laws hold for, small enough for 16-bit addresses; and what their parts require, a cell of
+-- What the leaf functions of carrier_rows, carrier_columns and carrier_turned require: a block that the laws hold for, small enough for 16-bit addresses; and what their parts require, a cell of
 -- it or the one behind its last.
 use Prim.Native.Nat.{ℕ, _≤_, _<_}
 use Rattle.laws.specs.Sized.{Sized}

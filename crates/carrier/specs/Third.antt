@@ -1,7 +1,7 @@
 -- The third permutation of IEEE 802.11n (data interleaver of the HT PHY), the frequency rotation, after the two of Formula.antt: with j the index
 -- after the second, (j - ((2·(i - 1)) mod 3 + 3·((i - 1)/3))·N_ROT·N_BPSCS) mod N_CBPSS. N is N_CBPSS, bits is N_BPSCS, r is N_ROT, which is 11 at
 -- 20 MHz and 29 at 40 MHz, and i is i_SS, the spatial stream, from 1 on. (Of the first two steps d is N_COL, N/d is N_ROW, and s is
--- max(N_BPSCS/2, 1); a column of the standard's, which it reads out one after the other, is here a row of the output.) Over any of these numbers;
+-- max(N_BPSCS/2, 1); what the standard calls a column, and reads out one after the other, is a row of the output here.) Over any of these numbers;
 -- / is whole division. These are definitions.
 use Prim.Native.Nat.{ℕ, _+_, _-_, _*_, _/_, _%_}
 use Rattle.laws.specs.Walk.{Rule, bareRule}

@@ -157,8 +157,8 @@ pub fn address(d: usize, n: usize, s: usize, t: usize) -> usize
     RowSpot::new(d, s, row, col).address()
 }
 
-// Writes L from a cell on, as far as there is room and cells; gives back how many. stop is where the row ends, or the room. The set-up divides in 32
-// bits, which every number of a block fits; in 64 a processor takes longer, or asks first.
+// Writes L from a cell on, as far as there is room and cells; gives back how many. stop is where the row ends, or the room. N and the
+// cell are divided in 32 bits, which they fit; in 64 that takes longer, or the compiled code asks first whether 32 would do.
 pub fn write(d: usize, n: usize, s: usize, cell: usize, out: &mut [u16]) -> usize
     requires { ⌜ Block d n s cell ⌝ }
     ensures { λ r. ⌜ Ran (carrierL d n s) n cell (now (out .entry)) (now (out .exit)) r ⌝ }

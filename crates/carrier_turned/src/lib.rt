@@ -1,7 +1,7 @@
 // The carrier interleaver of a spatial stream: the first two steps as carrier_rows and carrier_columns walk them, and turned. L is the walk for L of
 // the two steps from the cell that lies the turn ahead, in two pieces where it passes N, since there it begins again at 0. M is the walk for M of
-// the two steps, and a pass over what it wrote that takes the turn off. No address is divided for. The public functions are leaf
-// functions: the crate above them tests a set first, and shows what they require.
+// the two steps, and a pass over what it wrote that takes the turn off. A walk divides when it is set up, and never after. The public
+// functions are leaf functions: the crate above them tests a set first, and shows what they require.
 use carrier::least;
 use carrier::turn_of;
 use laws::Leaf;

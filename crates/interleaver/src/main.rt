@@ -113,7 +113,7 @@ fn combine_by(line: &[u8]) {
 fn ask(c: Command, line: &[u8]) {
     match c {
         Command::Help => told::help(),
-        Command::Profiles => pages::profiles::table(),
+        Command::Profiles => pages::admitted::table(),
         _ => answer(c, line),
     }
 }

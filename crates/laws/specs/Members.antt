@@ -1,4 +1,5 @@
--- Tables: what one computed test shows of every entry holds of each member, and tests of a number that say it is on a list.
+-- Tables: what one computed test shows of every entry holds of each member; lists one after the other, and what stands in them; and tests of a number
+-- that say it is on a list.
 use mathlib.Core.Path.{_≡_, refl, sym, ap, _∙_, subst}
 use mathlib.Core.Bool.{Bool, true, false, _&&_, _||_, false≢true}
 use mathlib.Core.Logic.{⊎-elim}

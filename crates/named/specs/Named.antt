@@ -1,4 +1,5 @@
--- Named words, as `stream=2`: a word that holds a `=` (61) and no `/` (47) before it. Its name stands before the `=`, its value behind it.
+-- Named words, as `stream=2`: a word that holds a `=` (61) and no `/` (47) before it. Its name stands before the `=`, its value behind it. Rests on Words
+-- of crate lines.
 use Prim.Native.Nat.{ℕ, zero, suc, _+_, _-_, _<_, _≤_}
 use mathlib.Core.Path.{_≡_, _∙_, sym, refl, ap}
 use mathlib.Core.Bool.{Bool, true, false, cond, Bool·beq}

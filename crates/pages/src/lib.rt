@@ -1,7 +1,7 @@
 // The answers of the query commands as text: address lists, one address, the table of profiles, a picture.
 pub mod lists; // lists.rt: the test of a set, addresses
 pub mod picture; // picture.rt: a permutation as an SVG
-pub mod profiles; // profiles.rt: what each profile admits
+pub mod admitted; // admitted.rt: what each profile admits
 
 use libc::STDOUT_FILENO;
 

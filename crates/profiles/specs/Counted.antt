@@ -1,23 +1,23 @@
--- What an entry of a profile counts out is what its numbers admit: of bits that are admitted there is a row, no row is empty, and a row has each N that
--- is admitted with its bits. Computed for every entry but the turbo one, where it is shown; no profile of carriers is named. (That what is counted
+-- What the numbers of an entry admit is counted out: of bits that are admitted there is a row, no row is empty, and a row has each N that is admitted
+-- with its bits. Computed for every entry but the turbo one, where it is shown; no profile of carriers is named. (That what is counted
 -- is admitted as well, specs/Listed.antt of sizes shows.) Rests on Profiles and Entered.
 use mathlib.Core.Path.{_≡_, refl, ap₂, subst}
 use mathlib.Core.Bool.{Bool, true, false, cond, _&&_, false≢true}
-use mathlib.Core.List.{List, [], _∷_, _++_, map, List·Memᴰ, List·Memᴰ·head, Memᴰ·cast}
+use mathlib.Core.List.{List, [], _∷_, map, List·Memᴰ, List·Memᴰ·head, Memᴰ·cast}
 use Prim.Native.Nat.{ℕ, _+_, _-_, _*_, _/_, _≤_, _<_}
 use native.Mathlib.Nat.{mul-pos}
 use native.Mathlib.Omega.{arith}
 use lib.Dec.{leb, ltb, eqb}
 use borrow.Author.Tests.{leb-true, ltb-true, eqb-true}
 use Rattle.laws.specs.Run.{run, run-mem, mem-run}
-use Rattle.laws.specs.Members.{both, every, at-each, All, all-join, all-tested, by-member, oneOf, one-of, multiple-of}
+use Rattle.laws.specs.Members.{both, every, at-each, All, all-tested, by-member, oneOf, one-of, multiple-of}
 use Rattle.profiles.specs.declared.Form.{Form}
 use Rattle.profiles.specs.declared.Form.the-variants.{Only, Doubled, Multiple, Grouped, Range}
 use Rattle.profiles.specs.declared.Admitted.{Admitted}
 use Rattle.profiles.specs.Entry.{Row, Entry, some, multiples}
-use Rattle.profiles.specs.Profiles.{turboSizes, turbo, carriers, turbos, spatials, profiles, entryBy}
+use Rattle.profiles.specs.Profiles.{turboSizes, turbo, carriers, spatials, profiles, entryBy}
 use Rattle.profiles.specs.Profiles.{groupBy, bitsOf, bitsIn, doubles, sizeIn, sizeBy}
-use Rattle.profiles.specs.Entered.{in-profiles}
+use Rattle.profiles.specs.Entered.{in-profiles, every-profile}
 
 -- a row has each size that is admitted with its bits
 abbrev pub HasEach : Admitted → Row → Type 0
@@ -73,9 +73,12 @@ same-list (x ∷ xs) (y ∷ ys) e = let p = both (eqb x y) (sameList xs ys) e in
 rowCounted : Admitted → Row → Bool
 rowCounted a r = ltb 0 (r .bits) && sameList (formSizes (a .form) (a .unit) (a .limit) (r .bits)) (r .sizes)
 
+hasRow : Entry → ℕ → Bool
+hasRow q b = oneOf b (map (λ r. r .bits) (q .rows))
+
 counted : Entry → Bool
 counted q =
-    every (λ b. oneOf b (map (λ r. r .bits) (q .rows))) (bitsOf (q .admitted .bits))
+    every (hasRow q) (bitsOf (q .admitted .bits))
     && (every (λ r. some (r .sizes)) (q .rows) && (ltb 0 (q .admitted .unit) && every (rowCounted (q .admitted)) (q .rows)))
 
 row-has-each : (a : Admitted) (r : Row) → 0 < a .unit → rowCounted a r ≡ true → HasEach a r
@@ -86,26 +89,23 @@ row-has-each a r hu e n h =
     (in-form (a .form) (a .unit) (a .limit) (r .bits) n hu (ltb-true 0 (r .bits) (p .0)) h)
 
 counted-holds : (q : Entry) → counted q ≡ true → Counted q
-unfolding counted
+unfolding counted hasRow
 counted-holds q e =
-    let t = both (every hasRow (bitsOf (q .admitted .bits))) _ e in
+    let t = both (every (hasRow q) (bitsOf (q .admitted .bits))) _ e in
     let v = both (every (λ r. some (r .sizes)) (q .rows)) _ (t .1) in
     let w = both (ltb 0 (q .admitted .unit)) _ (v .1) in
     record {
-      has-row = λ b h. one-of b _ (at-each hasRow (bitsOf (q .admitted .bits)) (t .0) (one-of b (bitsOf (q .admitted .bits)) h));
+      has-row = λ b h. one-of b _ (at-each (hasRow q) (bitsOf (q .admitted .bits)) (t .0) (one-of b (bitsOf (q .admitted .bits)) h));
       has-size = v .0;
       has-each = all-tested (rowCounted (q .admitted)) (λ r. row-has-each (q .admitted) r (ltb-true 0 (q .admitted .unit) (w .0))) (q .rows) (w .1);
     }
-  where
-    hasRow : ℕ → Bool
-    hasRow b = oneOf b (map (λ r. r .bits) (q .rows))
 
 carriers-counted : every counted carriers ≡ true
-unfolding counted rowCounted sameList
+unfolding counted hasRow rowCounted sameList
 carriers-counted = refl
 
 spatials-counted : every counted spatials ≡ true
-unfolding counted rowCounted sameList
+unfolding counted hasRow rowCounted sameList
 spatials-counted = refl
 
 -- the sizes of the turbo profile are 40 to 5,114
@@ -122,9 +122,7 @@ turbo-counted = record {
 }
 
 all-counted : All Counted profiles
-all-counted =
-    all-join Counted carriers (turbos ++ spatials) (all-tested counted counted-holds carriers carriers-counted)
-    (all-join Counted turbos spatials (turbo-counted, tt) (all-tested counted counted-holds spatials spatials-counted))
+all-counted = every-profile Counted counted counted-holds carriers-counted turbo-counted spatials-counted
 
 -- so of the entry of every number
 pub entry-counted : (p : ℕ) → Counted (entryBy p)

@@ -1,16 +1,17 @@
 -- What the functions of src/table.rt promise, in arithmetic alone, so that a profile needs no line of proof: at each number of the table what its
--- entry has, below the first what the first has, past the last what the last has. And that this is what the entry of the number has.
+-- entry has, below the first what the first has, past the last what the last has. And that this is what the entry of the number has. Rests on
+-- Profiles.
 use mathlib.Core.Path.{_≡_, refl, sym, ap, ap₂, subst, _∙_}
 use mathlib.Core.Bool.{Bool, true, false, cond}
 use mathlib.Core.Logic.{_⊎_, inl, inr, ⊎-elim}
-use mathlib.Core.List.{List, [], _∷_, List·Memᴰ, List·Memᴰ·head, List·Memᴰ·tail, List·Memᴰ·cases-cons, Memᴰ·cast}
+use mathlib.Core.List.{List, [], _∷_, _++_, List·Memᴰ, List·Memᴰ·head, List·Memᴰ·tail, List·Memᴰ·cases-cons, Memᴰ·cast}
 use Prim.Native.Nat.{ℕ, _≤_, _<_}
 use native.Mathlib.Omega.{arith}
 use lib.Dec.{ltb, eqb}
 use borrow.Author.Tests.{eqb-true, ne-eqb, ltb-true, ltb-false}
 use Rattle.laws.specs.Outcome.{apart}
 use Rattle.laws.specs.Run.{run, run-mem}
-use Rattle.laws.specs.Members.{All, every, at-each, by-member}
+use Rattle.laws.specs.Members.{All, all-join, all-tested, every, at-each, by-member}
 use Rattle.profiles.specs.declared.Family.{Family}
 use Rattle.profiles.specs.declared.Family.the-variants.{Carrier, Spatial, Turbo}
 use Rattle.profiles.specs.declared.Bits.{Bits}
@@ -20,7 +21,7 @@ use Rattle.profiles.specs.declared.Form.the-variants.{Only, Doubled, Mul
 use Rattle.profiles.specs.declared.Numbers.{Numbers}
 use Rattle.profiles.specs.declared.Admitted.{Admitted}
 use Rattle.profiles.specs.Entry.{Entry, numbers, admitted}
-use Rattle.profiles.specs.Profiles.{ofdm, profiles, lastProfile, among, ends, inTable, entryBy, familyBy, numbersBy, admittedBy}
+use Rattle.profiles.specs.Profiles.{ofdm, turbo, carriers, turbos, spatials, profiles, lastProfile, among, ends, inTable, entryBy, familyBy, numbersBy, admittedBy}
 
 -- families, bits and forms as numbers
 abbrev pub familyTag : Family → ℕ
@@ -99,6 +100,12 @@ in-profiles p = ⊎-elim (λ e. Memᴰ·cast e (end (eqb p 0))) (λ m. m) (List�
     end : (b : Bool) → List·Memᴰ (cond b (among 1 ofdm profiles) (among lastProfile ofdm profiles)) profiles
     end true = named 1
     end false = named lastProfile
+
+-- what a test shows of those entries that it is computed of, and is shown of the turbo one, holds of every profile
+pub every-profile : (P : Entry → Type 0) (test : Entry → Bool) → ((q : Entry) → test q ≡ true → P q) → every test carriers ≡ true → P turbo
+    → every test spatials ≡ true → All P profiles
+every-profile P test show c t s =
+    all-join P carriers (turbos ++ spatials) (all-tested test show carriers c) (all-join P turbos spatials (t, tt) (all-tested test show spatials s))
 
 -- what holds of the entries by their numbers holds of the entry of every number
 pub entered-is : (Same : Entry → Type 0) (p : ℕ) → AsEntered Same p → Same (entryBy p)

@@ -1,6 +1,6 @@
 -- The profiles: what each is in numbers, and what it admits, counted out with no remainder taken anywhere: document 01's table "Profiles and what
--- each admits", and change request 4's profiles 6 and 7. Then the tests of bits and N that the numbers make; specs/Counted.antt shows that they and
--- the count agree. What is proved of a further profile of carriers, of one stream or of four, needs its lines here and in src/table.rt, and no
+-- each admits", and change request 4's profiles 6 and 7. Then the tests of bits and N that the numbers make; specs/Counted.antt, with
+-- specs/Listed.antt of sizes, shows that they and the count agree. What is proved of a further profile of carriers, of one stream or of four, needs its lines here and in src/table.rt, and no
 -- others, as far as N is at most 1,536 and its unit below 1,000. These are definitions.
 use mathlib.Core.Bool.{Bool, cond, _&&_}
 use mathlib.Core.List.{List, [], _∷_, _++_}

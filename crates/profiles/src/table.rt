@@ -1,6 +1,5 @@
-// The profiles, question by question: which family, which numbers, what is admitted. What is proved of a further profile of carriers, of one stream or
-// of four, needs its lines here and in specs/Profiles.antt, and no others, as far as N is at most 1,536 and its unit below 1,000: the promises are
-// arithmetic, and functions of one are a table, a branch for each answer.
+// The profiles, question by question: which family, which numbers, what is admitted. Each function is a table, a branch for each answer, and its promise is
+// arithmetic: what is proved of a further profile of carriers needs its lines here and in specs/Profiles.antt, which says how far, and no others.
 use super::Admitted;
 use super::Bits;
 use super::Family;
@@ -8,8 +7,8 @@ use super::Form;
 use super::Numbers;
 ghost use Rattle.profiles.specs.Entered.{FamilyEntered, NumbersEntered, AdmittedEntered};
 
-// The profiles are numbered from 1 to this. A number below 1 is answered as 1 is, and one above this as this is; no address
-// comes of either, and no refusal but 1.
+// The profiles are numbered from 1 to this. A number below 1 is answered as 1 is, and one above this as this is (`entryBy` in
+// specs/Profiles.antt).
 pub(super) const LAST: u32 = 7;
 
 // Which family: 1 to 4 are carrier interleavers, 5 (3GPP TS 25.212) is the turbo interleaver, 6 and 7 (IEEE 802.11n) are of spatial streams.

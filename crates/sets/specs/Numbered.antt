@@ -1,6 +1,6 @@
 -- A set by the number of its profile, for whoever speaks of one: its family, and d and r of the spatial profiles. Each is arithmetic over the table of
 -- crate profiles. Rests on Entered there.
-use Prim.Native.Nat.{_<_}
+use Prim.Native.Nat.{ℕ, _<_}
 use mathlib.Core.Logic.{_⊎_, inl, inr}
 use mathlib.Core.Path.{_≡_, ap}
 use native.Mathlib.Omega.{arith}
@@ -16,6 +16,10 @@ module _ (s : Set) (If : Type 0) where
   unfolding familyOf
   family-where f h i = families-apart _ f (entered-is (λ q. If → familyTag (q .family) ≡ familyTag f) (s .profile) h i)
 
+  numbers-where : (d r : ℕ) → AsEntered (λ q. If → (q .numbers .d ≡ d) × (q .numbers .r ≡ r)) (s .profile) → If → (rowsOf s ≡ d) × (rotationOf s ≡ r)
+  unfolding numbersOf
+  numbers-where d r h i = entered-is (λ q. If → (q .numbers .d ≡ d) × (q .numbers .r ≡ r)) (s .profile) h i
+
 -- profiles 1 to 4 are of the carrier family, 5 is the turbo interleaver, 6 and 7 are of spatial streams
 pub carrier-profile : (s : Set) → s .profile < 5 → familyOf s ≡ Carrier
 carrier-profile s h = family-where s (s .profile < 5) Carrier (omega arith) h
@@ -30,13 +34,11 @@ spatial-profile s (inr e) = family-where s (s .profile ≡ 7) Spatial (omega ari
 -- and no other profile is the turbo family
 pub turbo-five : (s : Set) → familyOf s ≡ Turbo → s .profile ≡ 5
 unfolding familyOf
-turbo-five s e = entered-is (λ q. familyTag (q .family) ≡ 2 → s .profile ≡ 5) (s .profile) (omega arith) (ap familyTag e)
+turbo-five s e = entered-is (λ q. familyTag (q .family) ≡ familyTag Turbo → s .profile ≡ 5) (s .profile) (omega arith) (ap familyTag e)
 
 -- d and r at 20 and at 40 MHz
 pub ht20-numbers : (s : Set) → s .profile ≡ 6 → (rowsOf s ≡ 13) × (rotationOf s ≡ 11)
-unfolding numbersOf
-ht20-numbers s e = entered-is (λ q. s .profile ≡ 6 → (q .numbers .d ≡ 13) × (q .numbers .r ≡ 11)) (s .profile) (omega arith) e
+ht20-numbers s e = numbers-where s (s .profile ≡ 6) 13 11 (omega arith) e
 
 pub ht40-numbers : (s : Set) → s .profile ≡ 7 → (rowsOf s ≡ 18) × (rotationOf s ≡ 29)
-unfolding numbersOf
-ht40-numbers s e = entered-is (λ q. s .profile ≡ 7 → (q .numbers .d ≡ 18) × (q .numbers .r ≡ 29)) (s .profile) (omega arith) e
+ht40-numbers s e = numbers-where s (s .profile ≡ 7) 18 29 (omega arith) e

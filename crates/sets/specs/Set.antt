@@ -1,4 +1,4 @@
--- The size of a set, its family, the numbers of its formulas, and s. Rests on crate profiles. These are definitions.
+-- The size of a set, its family, the numbers of its formulas, and s. Rests on crates profiles and sizes. These are definitions.
 use Prim.Native.Nat.{ℕ}
 use mathlib.Core.Bool.{Bool, true, false}
 use Rattle.sizes.specs.declared.Size.{Size}

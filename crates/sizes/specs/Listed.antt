@@ -1,8 +1,9 @@
 -- Every size that is counted out passes the tests; how many sizes the turbo profile has; and what the code's proofs need of the tests. Computed for every
--- entry but the turbo one, where it is shown. (That every size that passes is counted out, specs/Counted.antt of profiles shows.) Rests on Tests.
+-- entry but the turbo one, where it is shown. (That every size that passes is counted out, specs/Counted.antt of profiles shows.) Rests on Tests, and on Entered and
+-- Counted of profiles.
 use mathlib.Core.Path.{_≡_, refl, sym, ap, _∙_}
 use mathlib.Core.Bool.{Bool, true, _&&_}
-use mathlib.Core.List.{_++_, map, append-nil, List·Memᴰ, List·Memᴰ·head, List·Memᴰ·tail, List·Memᴰ·eq-of-singleton, Memᴰ·of-map}
+use mathlib.Core.List.{map, append-nil, List·Memᴰ, List·Memᴰ·head, List·Memᴰ·tail, List·Memᴰ·eq-of-singleton, Memᴰ·of-map}
 use Prim.Native.Nat.{ℕ, max, _+_, _*_, _/_, _<_}
 use native.Mathlib.Nat.{mul-pos, mul-le-mul-right, le-of-lt}
 use native.Mathlib.Omega.{arith}
@@ -10,15 +11,15 @@ use lib.Dec.{ltb, eqb}
 use lib.ListN.{length, length-map}
 use borrow.Author.Tests.{le-leb, ltb-true, eqb-true}
 use Rattle.laws.specs.Run.{length-run}
-use Rattle.laws.specs.Members.{both, every, at-each, All, all-join, all-tested, oneOf, one-of}
+use Rattle.laws.specs.Members.{both, every, at-each, All, oneOf, one-of}
 use Rattle.profiles.specs.declared.Bits.{Bits}
 use Rattle.profiles.specs.declared.Bits.the-variants as kinds
 use Rattle.profiles.specs.declared.Form.{Form}
 use Rattle.profiles.specs.declared.Admitted.{Admitted}
 use Rattle.profiles.specs.Entry.{Entry}
-use Rattle.profiles.specs.Profiles.{turboSizes, turbo, carriers, turbos, spatials, profiles, entryBy, admittedBy}
+use Rattle.profiles.specs.Profiles.{turboSizes, turbo, carriers, spatials, profiles, entryBy, admittedBy}
 use Rattle.profiles.specs.Profiles.{groupBy, bitsOf, bitsIn, sizeIn, sizeBy}
-use Rattle.profiles.specs.Entered.{in-profiles}
+use Rattle.profiles.specs.Entered.{in-profiles, every-profile}
 use Rattle.profiles.specs.Counted.{turbo-range}
 use Rattle.sizes.specs.declared.Size.{Size}
 use Rattle.sizes.specs.Size.{size, sizesOf}
@@ -55,9 +56,7 @@ unfolding eachPasses
 each-passes q e z m = at-each passes (sizesOf q) e m
 
 pub all-pass : All EachPasses profiles
-all-pass =
-    all-join EachPasses carriers (turbos ++ spatials) (all-tested eachPasses each-passes carriers carriers-pass)
-    (all-join EachPasses turbos spatials (turbo-passes, tt) (all-tested eachPasses each-passes spatials spatials-pass))
+all-pass = every-profile EachPasses eachPasses each-passes carriers-pass turbo-passes spatials-pass
 
 -- how many sizes the turbo profile has, which is too many to compute
 pub length-turbo : length (sizesOf turbo) ≡ 5075

@@ -1,4 +1,5 @@
--- A size is a profile, bits per carrier and N; and the sizes of a table, entry by entry. Over any table.
+-- A size is a profile, bits per carrier and N; and the sizes of a table, entry by entry. Over any table. Rests on Entry of
+-- crate profiles.
 use mathlib.Core.Logic.{_⊎_, inl, inr, ⊎-elim}
 use mathlib.Core.List.{List, _++_, map, List·Memᴰ, List·Memᴰ·append-cases, Memᴰ·map}
 use Prim.Native.Nat.{ℕ}

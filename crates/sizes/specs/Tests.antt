@@ -1,4 +1,5 @@
--- What is listed: every size of the profiles; and the tests of a size, which are those of its profile's numbers. These are definitions.
+-- What is listed: every size of the profiles; and the tests of a size, which are those of its profile's numbers. Rests on Size,
+-- and on Profiles of crate profiles. These are definitions.
 use mathlib.Core.Bool.{Bool}
 use mathlib.Core.List.{List}
 use Rattle.profiles.specs.Profiles.{profiles, numberListed, admittedBy, bitsIn, sizeBy}

@@ -1,4 +1,4 @@
--- What the functions of the walk over the cells are given and ensure, part by part. Rests on Laid of crate wcdma and on Written of laws. These are definitions.
+-- What the functions of the walk over the cells are given and ensure, part by part. Rests on Laid of crate wcdma, Post of wcdma_powers and Written of laws. These are definitions.
 use Prim.Native.Nat.{ℕ, _+_, _*_, _-_, _<_, _≤_}
 use mathlib.Core.Bool.{cond}
 use mathlib.Core.List.{List}

@@ -1,4 +1,4 @@
--- What the functions that make S are given and ensure, part by part. These are definitions.
+-- What the functions that make S are given and ensure, part by part. Rests on Powers and Roots of wcdma_shape. These are definitions.
 use Prim.Native.Nat.{ℕ, _+_, _-_, _/_, _%_, _<_, _≤_}
 use mathlib.Core.List.{List}
 use mathlib.Core.Bool.{true, cond}

@@ -2,8 +2,9 @@
 -- no odd number up to its root divides it, by one computed test.
 use Prim.Native.Nat.{ℕ, zero, suc, _+_, _*_, _-_, _%_, _≤_, _<_}
 use mathlib.Core.Bool.{Bool, true, false, cond, not, _&&_, _||_}
+use mathlib.Core.Logic.{⊎-elim}
 use mathlib.Core.Path.{_≡_, refl, ap, sym, _∙_}
-use native.Mathlib.Nat.{mul-le-mul}
+use native.Mathlib.Nat.{mul-le-mul, eq-or-lt-of-le}
 use native.Mathlib.Omega.{arith}
 use lib.Dec.{eqb, ltb}
 use borrow.Author.Tests.{ltb-true, ltb-false, eq-eqb, ne-eqb, le-ltb, lt-ltb}
@@ -28,13 +29,11 @@ passed-over : (m q : ℕ) → q < 89 → isPrime (suc q) ≡ false → nextIn m 
 unfolding passes
 passed-over m q h e = next-step m q h ∙ rw e
 
-pub start-low : (m q : ℕ) → q < 6 → nextQ m q ≡ nextIn m (suc 5) (89 - 5)
+-- from 5 on the search goes on from where it is: 6 is no prime
+pub search-on : (m q : ℕ) → 5 ≤ q → nextQ m q ≡ nextIn m (suc q) (89 - q)
 unfolding nextQ
-start-low m q h = rw (lt-ltb q 6 h) (sym (passed-over m 5 (omega arith) (even-prime 6 (omega arith) refl)))
-
-pub start-high : (m q : ℕ) → 6 ≤ q → nextQ m q ≡ nextIn m (suc q) (89 - q)
-unfolding nextQ
-start-high m q h = rw (le-ltb q 6 h)
+search-on m q h =
+    ⊎-elim (λ e. rw (← e) (sym (passed-over m 5 (omega arith) (even-prime 6 (omega arith) refl)))) (λ l. rw (le-ltb q 6 l)) (eq-or-lt-of-le h)
 
 -- after an odd q the candidate is q + 2
 module _ (m q : ℕ) (big : 5 ≤ q) (h : q < 89) (o : q % 2 ≡ 1) where

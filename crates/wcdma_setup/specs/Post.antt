@@ -7,7 +7,7 @@ use lib.ListN.{getD, length}
 use Rattle.wcdma_shape.specs.Rectangle.{rows, prime}
 use Rattle.wcdma_setup.specs.Numbers.{nextQ, qOf, allFound}
 
--- the next q, or 0; it is odd, and 5 or more
+-- the next q, or 0; it is odd and 5 or more, as the search after it asks
 pub record NextOf (m last r : ℕ) : Type 0 where
   pub next-is : r ≡ nextQ m last
   pub odd : (r ≡ 0 → ⊥) → r % 2 ≡ 1

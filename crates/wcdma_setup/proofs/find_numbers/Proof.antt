@@ -1,11 +1,11 @@
 -- `find_numbers` finds the numbers q row by row. The invariant: those below i stand in their places, what comes after last is q(i), and all are found
 -- exactly where the rest are found after it.
-use Prim.Native.Nat.{_%_, _+_, _-_, _<_, _≤_, ℕ}
+use Prim.Native.Nat.{_%_, _-_, _<_, _≤_, ℕ}
 use borrow.Author.Needs.{needs}
 use lib.ListN.{getD, length, length-set}
 use lib.Seq.{getD-set-same}
 use mathlib.Core.Bool.{false≢true}
-use mathlib.Core.Path.{_∙_, _≡_, ap, refl, sym}
+use mathlib.Core.Path.{_∙_, _≡_, refl, sym}
 use native.Mathlib.Omega.{arith}
 use Rattle.laws.specs.Entries.{fill-more}
 use Rattle.wcdma_setup.proofs.Steps.{first-next, found-end, found-not, found-same, found-step, q-next}

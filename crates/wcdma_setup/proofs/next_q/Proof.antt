@@ -1,13 +1,12 @@
 -- `next_q` is the next q, or 0. Invariants: what the search gives from here on is what it gives from the start; and whether the candidate is a
 -- prime is the test with the divisors that are left.
-use Prim.Native.Nat.{_%_, _*_, _+_, _-_, _<_, _≤_, suc, ℕ}
+use Prim.Native.Nat.{_%_, _*_, _+_, _-_, _<_, _≤_, suc}
 use borrow.Author.Needs.{needs}
 use mathlib.Core.Bool.{true}
-use mathlib.Core.Logic.{⊎-elim}
-use mathlib.Core.Path.{_∙_, _≡_, ap, refl, sym}
-use native.Mathlib.Nat.{mul-le-mul, eq-or-lt-of-le}
+use mathlib.Core.Path.{_∙_, _≡_, refl, sym}
+use native.Mathlib.Nat.{mul-le-mul}
 use native.Mathlib.Omega.{arith}
-use Rattle.wcdma_setup.proofs.Search.{candidate-low, candidate-odd, next-composite, next-end, next-found, next-shared, odd-end, odd-found, odd-not, odd-prime, oddTest, small-root, start-high, start-low}
+use Rattle.wcdma_setup.proofs.Search.{candidate-low, candidate-odd, next-composite, next-end, next-found, next-shared, odd-end, odd-found, odd-not, odd-prime, oddTest, search-on, small-root}
 use Rattle.wcdma_setup.specs.Numbers.{isPrime, nextIn, nextQ}
 use Rattle.wcdma_setup.proofs.next_q.Statement.{statement}
 use Rattle.wcdma_setup.proofs.next_q.Tie as tie
@@ -25,12 +24,7 @@ abbrev μ-candidates : tie.MeasureT-candidates
 μ-candidates m last q₀ q = 89 - q
 
 candidates-holds : tie.Need-candidates-holds Inv-loop μ-loop Inv-candidates μ-candidates
-candidates-holds c = (
-  ⊎-elim (λ e. start-low (c .args .m) (c .args .last) (omega arith) ∙ ap (λ (x : ℕ). nextIn (c .args .m) (suc x) (89 - x)) e)
-      (λ l. start-high (c .args .m) (c .args .last) l) (eq-or-lt-of-le (c .pre .0)),
-  c .pre .0,
-  c .pre .1,
-)
+candidates-holds c = (search-on (c .args .m) (c .args .last) (c .pre .0), c .pre .0, c .pre .1)
 
 add-q : tie.Need-add-q Inv-loop μ-loop Inv-candidates μ-candidates
 add-q c = search needs

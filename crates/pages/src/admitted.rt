@@ -1,5 +1,5 @@
-// What each profile admits, as a table. Sizes and streams are those that the test of a set accepts, each size up to the longest list being tried,
-// so the table cannot say anything else than the library does.
+// What each profile admits, as a table. The sizes are those that the test of a set accepts, each size up to the longest list being tried, and the streams
+// those that it goes by, so the table cannot say anything else than the library does.
 use super::say;
 use super::say_number;
 use sets::Set;
@@ -14,12 +14,12 @@ struct Row {
 }
 
 // The number of the refusal of a set, or 0.
-fn verdict(profile: u32, bits: u32, n: u32, stream: u32) -> u32 {
+fn verdict(profile: u32, bits: u32, n: u32) -> u32 {
     match sets::test(Set {
         profile,
         bits,
         n,
-        stream,
+        stream: 1,
     }) {
         Verdict::Refused(x) => x.number,
         Verdict::Accepted => 0,
@@ -80,7 +80,7 @@ fn sizes(profile: u32, bits: u32) {
     let mut row = Row::none();
     let mut n = 1;
     while n <= 6144 {
-        if verdict(profile, bits, n, 1) == 0 {
+        if verdict(profile, bits, n) == 0 {
             row = row.with(n);
         }
         n += 1;
@@ -89,25 +89,7 @@ fn sizes(profile: u32, bits: u32) {
     say(b"\n");
 }
 
-// The least size that is accepted.
-fn least(profile: u32, bits: u32) -> u32 {
-    let mut n = 1;
-    while n < 6144 && verdict(profile, bits, n, 1) > 0 {
-        n += 1;
-    }
-    n
-}
-
-// The last of the streams from 1 on that are accepted with a size. No more than nine are tried.
-fn last_stream(profile: u32, bits: u32, n: u32) -> u32 {
-    let mut last = 1;
-    while last < 9 && verdict(profile, bits, n, last + 1) == 0 {
-        last += 1;
-    }
-    last
-}
-
-// Their column.
+// The column of the streams.
 fn streams(last: u32) {
     if last > 1 {
         say_number(b"1 to ", last as u64);
@@ -126,7 +108,13 @@ fn front(profile: u32, bits: u32, first: bool) {
     }
     say_number(b"", bits as u64);
     say(b"     ");
-    streams(last_stream(profile, bits, least(profile, bits)));
+    let numbers = sets::numbers_of(Set {
+        profile,
+        bits,
+        n: 0,
+        stream: 1,
+    });
+    streams(numbers.streams);
 }
 
 fn name(profile: u32) {
@@ -148,7 +136,7 @@ fn profile(p: u32) {
     let mut first = true;
     let mut bits = 1;
     while bits <= 8 {
-        if verdict(p, bits, 0, 1) > 2 {
+        if verdict(p, bits, 0) > 2 {
             front(p, bits, first);
             sizes(p, bits);
             first = false;
@@ -162,7 +150,7 @@ pub fn table() {
     say(b"profile  standard                     bits  streams  N\n");
     let mut p = 1;
     while p <= 9 {
-        if verdict(p, 0, 0, 1) > 1 {
+        if verdict(p, 0, 0) > 1 {
             profile(p);
         }
         p += 1;

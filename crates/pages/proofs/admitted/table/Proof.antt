@@ -1,8 +1,8 @@
--- `pages::profiles::table` ends: the profile rises.
+-- `pages::admitted::table` ends: the profile rises.
 use borrow.Author.Needs.{needs}
 use Prim.Native.Nat.{_≤_, _-_}
-use Rattle.pages.proofs.profiles.table.Statement.{statement}
-use Rattle.pages.proofs.profiles.table.Tie as tie
+use Rattle.pages.proofs.admitted.table.Statement.{statement}
+use Rattle.pages.proofs.admitted.table.Tie as tie
 
 abbrev Inv-loop : tie.InvT-loop
 Inv-loop p₀ p = p ≤ 10

@@ -1,8 +1,8 @@
--- `pages::profiles::sizes` ends: the size rises.
+-- `pages::admitted::sizes` ends: the size rises.
 use borrow.Author.Needs.{needs}
 use Prim.Native.Nat.{_≤_, _-_}
-use Rattle.pages.proofs.profiles.sizes.Statement.{statement}
-use Rattle.pages.proofs.profiles.sizes.Tie as tie
+use Rattle.pages.proofs.admitted.sizes.Statement.{statement}
+use Rattle.pages.proofs.admitted.sizes.Tie as tie
 
 abbrev Inv-loop : tie.InvT-loop
 Inv-loop profile bits row₀ n₀ t5 row n = n ≤ 6145

@@ -1,8 +1,8 @@
--- `pages::profiles::profile` ends: the bits rise.
+-- `pages::admitted::profile` ends: the bits rise.
 use borrow.Author.Needs.{needs}
 use Prim.Native.Nat.{_≤_, _-_}
-use Rattle.pages.proofs.profiles.profile.Statement.{statement}
-use Rattle.pages.proofs.profiles.profile.Tie as tie
+use Rattle.pages.proofs.admitted.profile.Statement.{statement}
+use Rattle.pages.proofs.admitted.profile.Tie as tie
 
 abbrev Inv-loop : tie.InvT-loop
 Inv-loop p first₀ bits₀ first bits = bits ≤ 9
