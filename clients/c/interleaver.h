@@ -104,8 +104,8 @@ uint32_t interleaver_add_received(const interleaver_set *set, const float *recei
                                   size_t present_len, float *sums, size_t sums_len, uint16_t *counts, size_t counts_len);
 
 /* One position, by input index: *sum and *count are what it holds. At a blank, *count is 0, and *sum keeps what it held. A sum that isn't finite is
-   read as it is. A reading asks a walk with no room to have the set tested: some 70 instructions for profiles 1 to 4, and for profile 5, whose whole set-up
-   that is, some 700 to 6,000; a program may as well look into its own sums and counts. Refusals 1, 2, 3, 16, 8, 4, 6. */
+   read as it is. A reading asks a walk with no room to have the set tested: some 70 instructions for profile 3, and for profile 5, whose whole set-up that
+   is, some 700 to 6,000; a program may as well look into its own sums and counts. Refusals 1, 2, 3, 16, 8, 4, 6. */
 uint32_t interleaver_read_sum(const interleaver_set *set, const float *sums, size_t sums_len, const uint16_t *counts, size_t counts_len,
                               uint32_t position, float *sum, uint16_t *count);
 
