@@ -19,6 +19,31 @@ static void refused_feeds(feed *go) {
     EXPECT(go(&past, store, INTERLEAVER_DVB_STORE, in, 4, out, 4) == 0 && past == 3);
 }
 
+/* a burst of n bytes that can be told apart, in a channel that is else 0: where each comes out of the deinterleaver, and how near two of them */
+static void burst(uint32_t at, uint32_t n, uint32_t nearest) {
+    enum { LONG = 2600 };
+    static uint8_t in[LONG], out[LONG], store[INTERLEAVER_DVB_STORE];
+    uint32_t phase, i, t, a, found = 0, last = LONG, least = LONG;
+    memset(in, 0, sizeof in);
+    for (i = 0; i < n; i++)
+        in[at + i] = (uint8_t)(i + 1);
+    EXPECT(interleaver_dvb_start(store, sizeof store, 0, &phase) == 0);
+    for (t = 0, i = at; t < LONG; t += i, i = (i + 61) % 131) { /* cut raggedly */
+        i = i < LONG - t ? i : LONG - t;
+        EXPECT(interleaver_dvb_deinterleave(&phase, store, sizeof store, in + t, i, out + t, i) == 0);
+    }
+    for (t = 0; t < LONG; t++)
+        if (out[t] > 0) {
+            a = at + out[t] - 1;
+            EXPECT(t == a + 204 * (11 - a % 12));
+            if (last < t && t - last < least)
+                least = t - last;
+            last = t;
+            found++;
+        }
+    EXPECT(found == n && least == nearest);
+}
+
 void streams(void) {
     enum { LONG = 40000 };
     static uint8_t in[LONG], mid[LONG], out[LONG], there[INTERLEAVER_DVB_STORE], back[INTERLEAVER_DVB_STORE];
@@ -43,4 +68,8 @@ void streams(void) {
     EXPECT(memcmp(out + INTERLEAVER_DVB_DELAY, in, LONG - INTERLEAVER_DVB_DELAY) == 0);
     refused_feeds(interleaver_dvb_interleave);
     refused_feeds(interleaver_dvb_deinterleave);
+    for (at = 0; at < 24; at++) {
+        burst(at, 12, 203);
+        burst(at, 13, 12);
+    }
 }

@@ -45,8 +45,13 @@ some-delay way b s hb hs t i q =
 
 module _ (way : Way) (b s : ℕ) (hb : 0 < b) (hs : 0 < s) where
   -- a delay later the branch is the same
-  pub same-branch : (t k : ℕ) → (t + b * s * k) % b ≡ t % b
+  same-branch : (t k : ℕ) → (t + b * s * k) % b ≡ t % b
   same-branch t k = rw (mul-assoc b s k) (add-mul-mod-self-left t b (s * k))
+
+  -- and the delay, of either way
+  pub same-delay : (other : Way) (t u : ℕ) → delayAt other b s (t + delayAt way b s u) ≡ delayAt other b s t
+  unfolding delayAt
+  same-delay other t u = ap (λ (k : ℕ). b * s * ringOf other b k) (same-branch t (ringOf way b (u % b)))
 
   -- and the slot
   home : (t u : ℕ) → u ≡ t + delayAt way b s u → slotAt way b s u ≡ slotAt way b s t

@@ -3,6 +3,7 @@ pub mod Slots
 pub mod Cuts
 pub mod Delay
 pub mod Round
+pub mod Burst
 pub mod Lane
 pub mod Past
 pub mod Laning

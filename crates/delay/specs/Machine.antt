@@ -61,6 +61,14 @@ module _ {A R : Type 0} (next : R → R) where
 unfoldable pub delayAt : Way → ℕ → ℕ → ℕ → ℕ
 delayAt way branches step t = branches * step * ringOf way branches (t % branches)
 
+-- channel byte a comes out of the deinterleaver at this place
+unfoldable pub comesAt : ℕ → ℕ → ℕ → ℕ
+comesAt branches step a = a + step * branches * (branches - 1 - a % branches)
+
+-- at least so many places apart come out two different ones that are less than the branches apart
+unfoldable pub spreadOf : ℕ → ℕ → ℕ
+spreadOf branches step = branches * step - 1
+
 -- entry t of a stream that comes d late, behind f
 unfoldable pub late : {A : Type 0} → A → ℕ → (ℕ → A) → ℕ → A
 late f d input t = cond (ltb t d) f (input (t - d))

@@ -10,7 +10,7 @@ use lib.Seq.{ext-getD, getD-take, getD-append-add, length-take-le}
 use Rattle.laws.specs.declared.Way.the-variants.{Interleaver, Deinterleaver}
 use Rattle.delay.specs.Machine.{offset, slotAt, runOutput, delayAt, late}
 use Rattle.delay.specs.Cuts.{length-output}
-use Rattle.delay.specs.Delay.{late-early, late-from, same-branch, fresh}
+use Rattle.delay.specs.Delay.{late-early, late-from, same-delay, fresh}
 
 -- two delays add up
 late-late : {A : Type 0} (f : A) (d e : ℕ) (input : ℕ → A) (t : ℕ) → late f (d + e) input (t + e) ≡ late f d input t
@@ -31,10 +31,6 @@ module _ (b s : ℕ) (hb : 0 < b) (hs : 0 < s) where
       let e : t % b + (b - 1 - t % b) ≡ b - 1 = omega (arith, mod-lt t hb) in
       sym (mul-add (b * s) (t % b) (b - 1 - t % b)) ∙ ap (λ (k : ℕ). b * s * k) e
 
-  same-delay : (t k : ℕ) → t + delayAt Deinterleaver b s k ≡ k → delayAt Interleaver b s t ≡ delayAt Interleaver b s k
-  unfolding delayAt
-  same-delay t k e = ap (λ (n : ℕ). b * s * n) (sym (ap (λ (n : ℕ). n % b) (sym e) ∙ same-branch Deinterleaver b s hb hs t (b - 1 - k % b)))
-
   pub round : {A : Type 0} (f : A) (xs : List A) (t : ℕ) → t < length xs
       → getD (runOutput (slotAt Deinterleaver b s) suc 0 (replicate (offset s b) f) (runOutput (slotAt Interleaver b s) suc 0 (replicate (offset s b) f) xs)) t f
       ≡ late f (b * s * (b - 1)) (λ n. getD xs n f) t
@@ -54,7 +50,7 @@ module _ (b s : ℕ) (hb : 0 < b) (hs : 0 < s) where
           let g : t - d < length xs = omega arith in
           ap (late f d (λ m. getD ys m f)) (sym k) ∙ late-from f d (λ m. getD ys m f) (t - d)
           ∙ fresh Interleaver b s hb hs f xs (t - d) g
-          ∙ ap (λ (m : ℕ). late f m (λ n. getD xs n f) (t - d)) (same-delay (t - d) t k)
+          ∙ ap (λ (m : ℕ). late f m (λ n. getD xs n f) (t - d)) (sym (same-delay Deinterleaver b s hb hs Interleaver (t - d) t) ∙ ap (delayAt Interleaver b s) k)
           ∙ sym (late-late f (delayAt Interleaver b s t) d (λ n. getD xs n f) (t - d))
           ∙ ap (late f (delayAt Interleaver b s t + d) (λ n. getD xs n f)) k
           ∙ ap (λ (m : ℕ). late f m (λ n. getD xs n f) t) (delays t)

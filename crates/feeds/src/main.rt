@@ -1,8 +1,11 @@
 // Feeds 30,000 bytes through the interleaver, and what comes out through a deinterleaver, cut raggedly and with refused calls between.
 // Every byte is compared with the closed form, which divides and shares nothing with the feed. Once from a start, and once from a
-// record at phase 5,654,868, a multiple of 12 just before the phase's end, with a filled store.
-mod closed;
+// record at phase 5,654,868, a multiple of 12 just before the phase's end, with a filled store. Then bursts in the channel of a deinterleaver,
+// from each of 24 bytes on: each byte is looked for in what comes out, and its place compared with where its queue lets it out.
+mod bursts; // bursts.rt: bursts, and where they are found again
+mod closed; // closed.rt: what is fed, and what must come out
 
+use bursts::Seen;
 use laws::Way;
 use libc::STDOUT_FILENO;
 use streams::Fed;
@@ -241,9 +244,37 @@ fn both(phase: u32, f: u8) {
     machine(Way::Deinterleaver, phase, f, &input, &sent, &mut back);
 }
 
+// A burst of n bytes from byte `at` on through a deinterleaver, and what is found of it.
+fn burst(at: usize, n: usize, seen: Seen) -> Seen {
+    let mut store = [0u8; 1122];
+    let mut input = [0u8; 2600];
+    let mut out = [0u8; 2600];
+    bursts::channel(at, n, &mut input);
+    let s = begin(&mut store, 0, 0);
+    run(Way::Deinterleaver, at, s, &mut store, &input, &mut out);
+    seen.look(at, &out)
+}
+
+// Bursts of n bytes.
+fn spread(n: usize) {
+    let mut seen = Seen::none();
+    let mut at = 0;
+    while at < 24 {
+        seen = burst(at, n, seen);
+        at += 1;
+    }
+    number(b"bursts of ", n as u64);
+    number(b" found ", seen.found);
+    number(b" not at their place ", seen.wrong);
+    number(b" least distance ", seen.nearest);
+    io::write_all(STDOUT_FILENO, b"\n");
+}
+
 fn main() {
     io::write_all(STDOUT_FILENO, b"from a start\n");
     both(0, 165);
     io::write_all(STDOUT_FILENO, b"from phase 5654868\n");
     both(5654868, 60);
+    spread(12);
+    spread(13);
 }

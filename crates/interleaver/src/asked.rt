@@ -1,6 +1,5 @@
 // The numbers of a command. A word that is no number is told, and the command does nothing.
 use super::names;
-use super::told;
 use lines::word;
 use named::among;
 use numbers::Number;
@@ -9,6 +8,12 @@ use sets::Set;
 // A parameter set, or none, which has been told.
 pub enum SetAsked {
     Given(Set),
+    Wrong,
+}
+
+// A burst, or none, which has been told.
+pub enum BurstAsked {
+    Given { at: u32, length: u32 },
     Wrong,
 }
 
@@ -78,4 +83,19 @@ pub fn set(line: &[u8]) -> SetAsked {
         n,
         stream,
     })
+}
+
+// AT, which is word i, and LENGTH, which is word k.
+pub fn burst(line: &[u8], i: usize, k: usize) -> BurstAsked {
+    let Number::Value(at) = number(line, i, b"AT") else {
+        return BurstAsked::Wrong;
+    };
+    let Number::Value(length) = small_number(line, k, b"LENGTH", bursts::LONGEST, b"1024") else {
+        return BurstAsked::Wrong;
+    };
+    if length == 0 {
+        told::expected(b"LENGTH from 1 to 1024, the bytes of a burst");
+        return BurstAsked::Wrong;
+    }
+    BurstAsked::Given { at, length }
 }

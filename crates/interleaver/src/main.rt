@@ -1,9 +1,10 @@
 // The command line: words and numbers in, the answers of the proved libraries out. The loops here are over the questions of the command `lines`
 // and over named words; the others are in the crates below.
 mod asked; // asked.rt: the numbers of a command
-mod names; // names.rt: those that have names
-mod told; // told.rt: help, and what was expected
+mod commands; // commands.rt: the commands by name, and their form
+mod names; // names.rt: the numbers that have names
 
+use asked::BurstAsked;
 use asked::SetAsked;
 use laws::Way;
 use lines::ROOM;
@@ -70,7 +71,7 @@ fn move_blocks(way: Way, line: &[u8]) {
 
 // The DVB stream, standard input to output.
 fn move_stream(line: &[u8]) {
-    match told::named(word(line, 1)) {
+    match commands::named(word(line, 1)) {
         Command::Interleave => fill_stream(Way::Interleaver, line),
         Command::Deinterleave => fill_stream(Way::Deinterleaver, line),
         _ => told::usage(Command::Dvb),
@@ -88,6 +89,26 @@ fn fill_stream(way: Way, line: &[u8]) {
     filters::streamed::through(way, fill as u8);
 }
 
+// A burst in the channel: a table, or a picture, whose numbers are words further on and may be left out.
+fn show_burst(c: Command, line: &[u8]) {
+    match c {
+        Command::Burst => {
+            if let BurstAsked::Given { at, length } = asked::burst(line, 2, 3) {
+                bursts::page::table(at, length);
+            }
+        }
+        _ => {
+            if asked::plain(line, 3).len() == 0 {
+                bursts::picture::picture(0, 12);
+                return;
+            }
+            if let BurstAsked::Given { at, length } = asked::burst(line, 3, 4) {
+                bursts::picture::picture(at, length);
+            }
+        }
+    }
+}
+
 // Receptions from files, added up. The line is that of the arguments before the files and of the named words.
 fn combine() {
     let mut room = [0u8; ROOM];
@@ -100,7 +121,7 @@ fn combine_first(room: &[u8; ROOM], n: usize) {
 }
 
 fn combine_by(line: &[u8]) {
-    if !(told::in_form(Command::Combine, line) & receptions::in_form()) {
+    if !(commands::in_form(Command::Combine, line) & receptions::in_form()) {
         told::usage(Command::Combine);
         return;
     }
@@ -114,6 +135,7 @@ fn ask(c: Command, line: &[u8]) {
     match c {
         Command::Help => told::help(),
         Command::Profiles => pages::admitted::table(),
+        Command::Burst | Command::BurstPicture => show_burst(c, line),
         _ => answer(c, line),
     }
 }
@@ -142,7 +164,7 @@ fn answer_line(line: &[u8]) {
     if word(line, 0).len() == 0 {
         return;
     }
-    let c = told::named(word(line, 0));
+    let c = commands::command_of(line);
     match c {
         Command::Interleave
         | Command::Deinterleave
@@ -150,7 +172,7 @@ fn answer_line(line: &[u8]) {
         | Command::Combine
         | Command::Lines => told::expected(b"a question, as lines answers only those"),
         _ => {
-            if told::in_form(c, line) {
+            if commands::in_form(c, line) {
                 ask(c, line);
             } else {
                 told::usage(c);
@@ -161,12 +183,12 @@ fn answer_line(line: &[u8]) {
 
 // Does what the arguments say.
 fn obey(line: &[u8]) {
-    let c = told::named(word(line, 0));
+    let c = commands::command_of(line);
     if let Command::Combine = c {
         combine();
         return;
     }
-    if !told::in_form(c, line) {
+    if !commands::in_form(c, line) {
         told::usage(c);
         return;
     }

@@ -1,7 +1,6 @@
-// The named words of a command, as `stream=2`: numbers beside PROFILE, BITS and N. A further name is one more in `is_known`, and in what told.rt says
+// The named words of a command, as `stream=2`: numbers beside PROFILE, BITS and N. A further name is one more in `is_known`, and in what `told` says
 // of names; the set asks for its number.
 use super::asked;
-use super::told;
 use check::same;
 use named::among;
 use named::name;

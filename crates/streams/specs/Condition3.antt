@@ -2,7 +2,7 @@
 -- type, and with no bound on how many.
 use Prim.Native.Nat.{ℕ, suc, _-_, _*_, _%_, _<_}
 use mathlib.Core.Path.{_≡_, refl, sym, ap, _∙_}
-use mathlib.Core.List.{List, [], _++_}
+use mathlib.Core.List.{List, [], _++_, append-nil}
 use native.Mathlib.Nat.{zero-add, mod-lt}
 use lib.ListN.{length, getD, replicate, take, length-replicate}
 use lib.Dec.{lit<}
@@ -82,6 +82,16 @@ module _ {A : Type 0} where
   served-feed c l p e =
       rw (eq-eqb (length (c .store)) 1122 l, lt-leb 5654880 (c .stream .phase) p, eq-eqb (length (c .output)) (length (c .input)) e)
 
+  -- a whole stream may be fed at once, from a start's record and store
+  pub at-once : (way : Way) (f : A) (xs : List A)
+      → Calls way startRecord (startStore f) xs (fedOutput way startRecord (startStore f) xs) (fedRecord startRecord xs) (fedStore way startRecord (startStore f) xs)
+  unfolding startRecord startStore
+  at-once way f xs =
+      let c : Call A = record { way = way; stream = startRecord; store = startStore f; input = xs; output = xs } in
+      let e = served-feed c (length-replicate 1122 f) (lit< tt) refl in
+      let r = one-call c refl refl refl e in
+      rw (append-nil xs, append-nil (outputAfter c), r .output, r .stored) at (fed c refl refl refl e none)
+
   -- a start that is not refused gives its record, and a store full of f
   pub begun : {f : A} {s : Stream} {store : List A} → Fresh f s store → (s ≡ startRecord) × (store ≡ startStore f)
   begun {f} h =
@@ -94,7 +104,7 @@ module _ {A : Type 0} where
   started h = begun h
 
   -- its calls are the machine over t itself
-  counted : {way : Way} {f : A} {s s′ : Stream} {store xs ys store′ : List A} → Fresh f s store → Calls way s store xs ys s′ store′
+  pub counted : {way : Way} {f : A} {s s′ : Stream} {store xs ys store′ : List A} → Fresh f s store → Calls way s store xs ys s′ store′
       → ys ≡ runOutput (slotAt way 12 17) suc 0 (replicate (offset 17 12) f) xs
   counted {way} {f} {xs = xs} h c =
       let i = started h in

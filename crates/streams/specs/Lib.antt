@@ -4,6 +4,7 @@ pub mod Phase
 pub mod Feeding
 pub mod Calls
 pub mod Condition3
+pub mod Burst
 pub mod Blind
 pub mod Refusals
 pub mod Wrong

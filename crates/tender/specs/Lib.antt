@@ -5,6 +5,7 @@ pub mod Symbols
 pub mod Condition3
 pub mod Turbo
 pub mod Stream
+pub mod Burst
 pub mod Combine
 pub mod Zero
 pub mod ZeroSums

@@ -41,6 +41,11 @@ module _ {A : Type 0} where
       → says c ≡ done (fedRecord (c .stream) (c .input))
   served-feed c l p e = condition3.served-feed c l p e
 
+  -- and a whole stream may be fed at once: its one feed, from a start's record and store, is such calls
+  pub at-once : (way : Way) (f : A) (xs : List A)
+      → Calls way startRecord (startStore f) xs (fedOutput way startRecord (startStore f) xs) (fedRecord startRecord xs) (fedStore way startRecord (startStore f) xs)
+  at-once way f xs = condition3.at-once way f xs
+
   -- from a start with f: that run begins with start's own record and store, and it ends with the phase at the number of bytes fed
   pub one-run-started : {way : Way} {f : A} {s s′ : Stream} {store xs ys store′ : List A} → Fresh f s store → Calls way s store xs ys s′ store′
       → (ys ≡ fedOutput way startRecord (startStore f) xs) × (s′ ≡ phaseOf (length xs)) × (store′ ≡ fedStore way startRecord (startStore f) xs)

@@ -1,0 +1,32 @@
+// A burst as a table: each of its bytes and the place where it comes out, a line each; then the least distance between any two of them.
+use super::limited;
+use super::say;
+use libc::STDOUT_FILENO;
+use words::text::put;
+use words::text::put_number;
+ghost use Prim.Native.Nat.{_≤_};
+
+fn lines(at: u32, n: u32) {
+    let mut room = [0u8; 4096];
+    let mut end = 0;
+    let mut i = 0;
+    while i < n {
+        end = put_number(&mut room, end, at as u64 + i as u64);
+        end = put(&mut room, end, b" ");
+        end = put_number(&mut room, end, channel::place(at, i));
+        end = put(&mut room, end, b"\n");
+        i += 1;
+    }
+    words::text::flush(&room, end);
+}
+
+// `dvb burst`.
+pub fn table(at: u32, length: u32) {
+    let n = limited(length);
+    lines(at, n);
+    if n > 1 {
+        words::text::say_line(STDOUT_FILENO, b"least distance ", channel::nearest(at, n));
+        return;
+    }
+    say(b"least distance none\n");
+}
