@@ -113,8 +113,8 @@ uint32_t interleaver_read_sum(const interleaver_set *set, const float *sums, siz
    phase to 0. Refusal 7. */
 uint32_t interleaver_dvb_start(uint8_t *store, size_t store_len, uint8_t fill, uint32_t *phase);
 
-/* Feeds of any length, as long out as in. Byte a of a channel comes out of a started deinterleaver at place a + 204 * (11 - a % 12), so that two
-   that are less than 12 apart come out at least 203 apart. Refusals 7, 9, 6. */
+/* Feeds of any length, as long out as in. Counted from 0 at the start, byte a that a deinterleaver is fed comes out at place a + 204 * (11 - a % 12),
+   so that two different ones less than 12 apart come out at least 203 apart. Refusals 7, 9, 6. */
 uint32_t interleaver_dvb_interleave(uint32_t *phase, uint8_t *store, size_t store_len, const uint8_t *input, size_t input_len, uint8_t *out,
                                     size_t out_len);
 uint32_t interleaver_dvb_deinterleave(uint32_t *phase, uint8_t *store, size_t store_len, const uint8_t *input, size_t input_len, uint8_t *out,

@@ -3,11 +3,14 @@ pub mod page; // page.rt: as a table
 pub mod picture; // picture.rt: as an SVG
 
 use libc::STDOUT_FILENO;
+use words::text::say;
+use words::text::write;
 ghost use Prim.Native.Nat.{_≤_};
 
-// No burst is shown that is longer, and none of no byte.
+// The longest burst that is shown.
 pub const LONGEST: u32 = 1024;
 
+// A length that is shown: none is above LONGEST, and a burst has a byte.
 fn limited(length: u32) -> u32
     ensures { λ r. ⌜ (1 ≤ r) × (r ≤ 1024) ⌝ }
 {
@@ -17,11 +20,11 @@ fn limited(length: u32) -> u32
     if length == 0 { 1 } else { length }
 }
 
-fn say(words: &[u8]) {
-    words::text::write(STDOUT_FILENO, words);
-}
-
-// Words and a number, in the middle of a line.
-fn say_number(words: &[u8], n: u64) {
-    words::text::say(STDOUT_FILENO, words, n);
+// The least distance between any two of the first n bytes, in words.
+fn least(at: u32, n: u32) {
+    if n > 1 {
+        say(STDOUT_FILENO, b"least distance ", channel::nearest(at, n));
+        return;
+    }
+    write(STDOUT_FILENO, b"least distance none");
 }

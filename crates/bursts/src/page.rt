@@ -1,10 +1,10 @@
 // A burst as a table: each of its bytes and the place where it comes out, a line each; then the least distance between any two of them.
+use super::least;
 use super::limited;
-use super::say;
 use libc::STDOUT_FILENO;
 use words::text::put;
 use words::text::put_number;
-ghost use Prim.Native.Nat.{_≤_};
+use words::text::write;
 
 fn lines(at: u32, n: u32) {
     let mut room = [0u8; 4096];
@@ -24,9 +24,6 @@ fn lines(at: u32, n: u32) {
 pub fn table(at: u32, length: u32) {
     let n = limited(length);
     lines(at, n);
-    if n > 1 {
-        words::text::say_line(STDOUT_FILENO, b"least distance ", channel::nearest(at, n));
-        return;
-    }
-    say(b"least distance none\n");
+    least(at, n);
+    write(STDOUT_FILENO, b"\n");
 }

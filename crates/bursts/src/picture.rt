@@ -1,11 +1,16 @@
 // A burst as an SVG: above the channel with the burst in it, below the deinterleaver's output, and a stroke for each byte from the one to the other.
 // Across are bytes, from the burst's first on; a stroke is wider than a byte.
+use super::least;
 use super::limited;
-use super::say;
-use super::say_number;
+use libc::STDOUT_FILENO;
 use words::text::put;
 use words::text::put_number;
+use words::text::say;
+use words::text::write;
 ghost use Prim.Native.Nat.{_≤_};
+
+// No byte is later.
+const DELAY: u64 = 2244;
 
 // Where byte i comes out, counted from the burst's first.
 fn across(at: u32, i: u32) -> u64 {
@@ -32,56 +37,67 @@ fn strokes(at: u32, n: u32) {
 fn numbers(at: u32, n: u32) {
     let mut i = 0;
     while i < n {
-        say_number(b"<text x=\"", across(at, i));
-        say_number(b"\" y=\"490\">", channel::place(at, i));
-        say(b"</text>");
+        say(STDOUT_FILENO, b"<text x=\"", across(at, i));
+        say(STDOUT_FILENO, b"\" y=\"490\">", channel::place(at, i));
+        write(STDOUT_FILENO, b"</text>");
         i += 1;
     }
 }
 
+// A bar across the picture.
 fn bar(top: u64, width: u64) {
-    say_number(
+    say(
+        STDOUT_FILENO,
         b"<rect fill=\"#fff\" stroke=\"#999\" stroke-width=\"4\" x=\"-5\" height=\"100\" y=\"",
         top,
     );
-    say_number(b"\" width=\"", width);
-    say(b"\"/>\n");
+    say(STDOUT_FILENO, b"\" width=\"", width);
+    write(STDOUT_FILENO, b"\"/>\n");
 }
 
-// The least distance, in words.
-fn least(at: u32, n: u32) {
+// The burst's bytes, in words.
+fn bytes(at: u32, n: u32)
+    requires { ⌜ (1 ≤ n) × (n ≤ 1024) ⌝ }
+{
+    let from = at as u64;
     if n > 1 {
-        say_number(b"least distance ", channel::nearest(at, n));
+        say(STDOUT_FILENO, b"bytes ", from);
+        say(STDOUT_FILENO, b" to ", from + n as u64 - 1);
         return;
     }
-    say(b"least distance none");
+    say(STDOUT_FILENO, b"byte ", from);
 }
 
 // What the two bars are.
 fn captions(at: u32, n: u32)
     requires { ⌜ (1 ≤ n) × (n ≤ 1024) ⌝ }
 {
-    let from = at as u64;
-    say_number(
-        b"<g font-family=\"sans-serif\" fill=\"#444\" font-size=\"50\"><text y=\"-30\">channel: bytes ",
-        from,
+    write(
+        STDOUT_FILENO,
+        b"<g font-family=\"sans-serif\" fill=\"#444\" font-size=\"50\"><text y=\"-30\">channel: ",
     );
-    say_number(b" to ", from + n as u64 - 1);
-    say(b"</text><text y=\"560\">out of the deinterleaver: ");
+    bytes(at, n);
+    write(
+        STDOUT_FILENO,
+        b"</text><text y=\"560\">out of the deinterleaver: ",
+    );
     least(at, n);
-    say(b"</text></g>\n");
+    write(STDOUT_FILENO, b"</text></g>\n");
 }
 
 fn head(at: u32, n: u32)
     requires { ⌜ (1 ≤ n) × (n ≤ 1024) ⌝ }
 {
-    let width = n as u64 + 2244;
-    say_number(
+    let width = n as u64 + DELAY;
+    say(
+        STDOUT_FILENO,
         b"<svg xmlns=\"http://www.w3.org/2000/svg\" width=\"640\" height=\"190\" viewBox=\"-110 -100 ",
         width + 220,
     );
-    say_number(b" 700\">\n<title>DVB: a burst of ", n as u64);
-    say(b" bytes in the channel, and where they come out of the deinterleaver</title>\n");
+    write(
+        STDOUT_FILENO,
+        b" 700\">\n<title>DVB: a burst in the channel, and where its bytes come out of the deinterleaver</title>\n",
+    );
     bar(0, width + 10);
     bar(350, width + 10);
     captions(at, n);
@@ -92,13 +108,17 @@ pub fn picture(at: u32, length: u32) {
     let n = limited(length);
     head(at, n);
     if (n <= 12) & (at < 1000000) {
-        say(
+        write(
+            STDOUT_FILENO,
             b"<g font-family=\"sans-serif\" fill=\"#444\" font-size=\"36\" text-anchor=\"middle\">",
         );
         numbers(at, n);
-        say(b"</g>\n");
+        write(STDOUT_FILENO, b"</g>\n");
     }
-    say(b"<path fill=\"none\" stroke=\"#046\" stroke-width=\"6\" d=\"");
+    write(
+        STDOUT_FILENO,
+        b"<path fill=\"none\" stroke=\"#046\" stroke-width=\"6\" d=\"",
+    );
     strokes(at, n);
-    say(b"\"/>\n</svg>\n");
+    write(STDOUT_FILENO, b"\"/>\n</svg>\n");
 }

@@ -1,5 +1,5 @@
-// Where the bytes of a burst come out of the deinterleaver, and the least distance between any two of them. The burst begins at channel byte `at`,
-// counted from the start of the machine; its bytes are counted from 0.
+// Where the bytes of a burst in the DVB channel come out of the deinterleaver, and the least distance between any two of them. The burst
+// begins at channel byte `at`, counted from the start of the machine; its bytes are counted from 0.
 ghost use mathlib.Core.Path.{_≡_};
 ghost use Prim.Native.Nat.{_+_, _-_, _<_, min};
 ghost use Rattle.delay.specs.Machine.{comesAt};

@@ -10,8 +10,8 @@ use native.Mathlib.Decide.{decLt}
 use lib.Arith.{digits-mod}
 use lib.ListN.{length, getD, replicate}
 use Rattle.laws.specs.declared.Way.the-variants.{Deinterleaver}
-use Rattle.delay.specs.Machine.{offset, slotAt, runOutput, delayAt, comesAt, spreadOf, late}
-use Rattle.delay.specs.Delay.{late-early, late-from, same-delay, fresh}
+use Rattle.delay.specs.Machine.{offset, slotAt, runOutput, delayAt, comesAt, spreadOf}
+use Rattle.delay.specs.Delay.{late-early, same-delay, brings, fresh}
 
 -- how many places two lie apart
 abbrev pub distance : ℕ → ℕ → ℕ
@@ -54,23 +54,22 @@ module _ (b s : ℕ) (hb : 0 < b) (hs : 0 < s) where
     abbrev output : List A
     output = runOutput (slotAt Deinterleaver b s) suc 0 (replicate (offset s b) f) xs
 
-    abbrev input : ℕ → A
-    input n = getD xs n f
-
     -- the byte at a place is the one that lies the place's delay before it
-    stands : (a u : ℕ) → u < length xs → u ≡ a + delay u → getD output u f ≡ input a
-    stands a u h e = fresh Deinterleaver b s hb hs f xs u h ∙ ap (late f (delay u) input) e ∙ late-from f (delay u) input a
+    stands : (a u : ℕ) → u < length xs → u ≡ a + delay u → getD output u f ≡ getD xs a f
+    stands a u h e = fresh Deinterleaver b s hb hs f xs u h ∙ brings Deinterleaver b s hb hs f (λ n. getD xs n f) a u e
 
     -- byte a comes out at its place ..
     pub comes-out : (a : ℕ) → comesAt b s a < length xs → getD output (comesAt b s a) f ≡ getD xs a f
     comes-out a h = stands a (comesAt b s a) h (its-delay a)
 
     -- .. and at no other
-    pub nowhere-else : Labels f xs → (a u : ℕ) → a < length xs → u < length xs → getD output u f ≡ getD xs a f → u ≡ comesAt b s a
-    nowhere-else labels a u l h e = go (decLt u (delay u))
+    pub no-other : Labels f xs → (a u : ℕ) → a < length xs → u < length xs → getD output u f ≡ getD xs a f → u ≡ comesAt b s a
+    no-other labels a u l h e = go (decLt u (delay u))
       where
         go : Dec (u < delay u) → u ≡ comesAt b s a
-        go (yes early) = absurd (labels .not-fill a l (sym e ∙ fresh Deinterleaver b s hb hs f xs u h ∙ late-early f (delay u) input u early))
+        go (yes early) =
+            let fill : getD output u f ≡ f = fresh Deinterleaver b s hb hs f xs u h ∙ late-early f (delay u) (λ n. getD xs n f) u early in
+            absurd (labels .not-fill a l (sym e ∙ fill))
         go (no n) =
             let k : u ≡ u - delay u + delay u = omega (arith, n) in
             let own : u - delay u ≡ a = labels .own (u - delay u) a (omega arith) l (sym (stands (u - delay u) u h k) ∙ e) in
@@ -101,22 +100,26 @@ module _ (b s : ℕ) (hb : 0 < b) (hs : 0 < s) where
   unfolding spreadOf
   across a d i j e q = rw (q, mul-add (b * s) i (suc e)) (omega (arith, more e))
 
+  -- further on in the same turn
+  same-turn : (a k : ℕ) → a % b + k < b → (a + k) % b ≡ a % b + k
+  same-turn a k l =
+      let e : a + k ≡ a / b * b + (a % b + k) = omega (arith, div-add-mod' a b) in
+      ap (λ (n : ℕ). n % b) e ∙ digits-mod (a / b) l
+
   near : (a d : ℕ) → suc d < b → spreadOf b s ≤ distance (comesAt b s a) (comesAt b s (a + suc d))
   unfolding delayAt
   near a d h = rw (comes-late a, comes-late (a + suc d)) (go (decLt (a % b + suc d) b))
     where
       go : Dec (a % b + suc d < b) → spreadOf b s ≤ distance (a + delay a) (a + suc d + delay (a + suc d))
       go (yes l) =
-          let e : a + suc d ≡ a / b * b + (a % b + suc d) = omega (arith, div-add-mod' a b) in
-          let m : (a + suc d) % b ≡ a % b + suc d = ap (λ (n : ℕ). n % b) e ∙ digits-mod (a / b) l in
-          before _ _ (spreadOf b s) (inside a d (b - 1 - a % b) (b - 1 - (a + suc d) % b) (omega (arith, m, l)))
+          before _ _ (spreadOf b s) (inside a d (b - 1 - a % b) (b - 1 - (a + suc d) % b) (omega (arith, same-turn a (suc d) l, l)))
       go (no n) =
           let r : a % b + suc d - b < b = omega (arith, n, mod-lt a hb) in
           let e : a + suc d ≡ suc (a / b) * b + (a % b + suc d - b) = omega (arith, n, div-add-mod' a b, suc-mul (a / b) b) in
           let m : (a + suc d) % b ≡ a % b + suc d - b = ap (λ (n : ℕ). n % b) e ∙ digits-mod (suc (a / b)) r in
           behind _ _ (spreadOf b s) (across a d (b - 1 - a % b) (b - 1 - (a + suc d) % b) (b - suc (suc d)) (omega (arith, m, n, mod-lt a hb)))
 
-  -- two different bytes less than the branches apart come out so far apart at least ..
+  -- two different bytes that are fewer places apart than there are branches come out so far apart at least ..
   pub spread : (a c : ℕ) → a ≢ c → distance a c < b → spreadOf b s ≤ distance (comesAt b s a) (comesAt b s c)
   spread a c other h = go (decLt a c)
     where
@@ -134,13 +137,11 @@ module _ (b s : ℕ) (hb : 0 < b) (hs : 0 < s) where
   pub reached : (a : ℕ) → a % b + 1 < b → distance (comesAt b s a) (comesAt b s (a + 1)) ≡ spreadOf b s
   unfolding delayAt spreadOf
   reached a l =
-      let z : a + 1 ≡ a / b * b + (a % b + 1) = omega (arith, div-add-mod' a b) in
-      let m : (a + 1) % b ≡ a % b + 1 = ap (λ (n : ℕ). n % b) z ∙ digits-mod (a / b) l in
-      let e : b - 1 - a % b ≡ suc (b - 1 - (a + 1) % b) = omega (arith, m, l) in
+      let e : b - 1 - a % b ≡ suc (b - 1 - (a + 1) % b) = omega (arith, same-turn a 1 l, l) in
       let p : b * s * (b - 1 - a % b) ≡ b * s * (b - 1 - (a + 1) % b) + b * s = ap (λ (n : ℕ). b * s * n) e ∙ mul-suc (b * s) (b - 1 - (a + 1) % b) in
       rw (comes-late a, comes-late (a + 1)) (omega (arith, p, mul-pos hb hs))
 
-  -- bytes as far apart as there are branches come out no further apart
+  -- bytes as far apart as there are branches come out just as far apart
   pub turn-later : (a : ℕ) → comesAt b s (a + b) ≡ comesAt b s a + b
   unfolding comesAt
   turn-later a = rw (add-mod-right a b) (omega arith)

@@ -89,7 +89,7 @@ module _ (way : Way) (b s : ℕ) (hb : 0 < b) (hs : 0 < s) where
 
   module _ {A : Type 0} (f : A) (input : ℕ → A) where
     -- what byte u brings out
-    abbrev want : ℕ → A
+    abbrev pub want : ℕ → A
     want u = late f (delayAt way b s u) input u
 
     -- before byte t the store holds, for each byte of the coming delay, what it will bring out
@@ -100,7 +100,8 @@ module _ (way : Way) (b s : ℕ) (hb : 0 < b) (hs : 0 < s) where
     holds-start u i h g e =
         getD-replicate (offset s b) i f f (slotAt-in way b s u i hs hb e) ∙ sym (late-early f (delayAt way b s u) input u (omega arith))
 
-    brings : (t u : ℕ) → u ≡ t + delayAt way b s u → want u ≡ input t
+    -- which is the byte that lies its delay before it
+    pub brings : (t u : ℕ) → u ≡ t + delayAt way b s u → want u ≡ input t
     brings t u e = ap (λ (k : ℕ). late f (delayAt way b s u) input k) e ∙ late-from f (delayAt way b s u) input t
 
     holds-next : (t : ℕ) (store : List A) → length store ≡ offset s b → Holds t store → Holds (suc t) (keeps (slotAt way b s t) store (input t))

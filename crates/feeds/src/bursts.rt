@@ -75,7 +75,7 @@ impl Seen {
         }
     }
 
-    // What came out of a channel with a burst from byte `at` on, too.
+    // And what came out of the deinterleaver for a channel with a burst from byte `at` on.
     pub fn look(self, at: usize, out: &[u8]) -> Self {
         let mut seen = self;
         let mut last = usize::MAX;

@@ -62,14 +62,15 @@ fn moving(w: &[u8]) -> Command {
 pub fn command_of(line: &[u8]) -> Command {
     let c = named(word(line, 0));
     match c {
-        Command::Dvb => burst(word(line, 1), b"burst", c, Command::Burst),
-        Command::Picture => burst(word(line, 1), b"dvb", c, Command::BurstPicture),
+        Command::Dvb => if_next(line, b"burst", Command::Burst, c),
+        Command::Picture => if_next(line, b"dvb", Command::BurstPicture, c),
         _ => c,
     }
 }
 
-fn burst(w: &[u8], is: &[u8], c: Command, of: Command) -> Command {
-    if same(w, is) { of } else { c }
+// The command `yes` where the second word is this one, else `no`.
+fn if_next(line: &[u8], is: &[u8], yes: Command, no: Command) -> Command {
+    if same(word(line, 1), is) { yes } else { no }
 }
 
 // Whether a line has just n words that are not named.

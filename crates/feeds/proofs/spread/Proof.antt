@@ -3,7 +3,6 @@ use Prim.Native.Nat.{_≤_, _-_}
 use borrow.Author.Needs.{needs}
 use Rattle.feeds.proofs.spread.Statement.{statement}
 use Rattle.feeds.proofs.spread.Tie as tie
-use Rattle.io.proofs.write_all.Reads as write-all-reads
 
 abbrev Inv-loop : tie.InvT-loop
 Inv-loop n seen₀ at₀ t4 t5 t6 t7 t8 seen at = at ≤ 24

@@ -1,6 +1,6 @@
 -- A number for each byte, up to the last.
-use borrow.Author.Needs.{needs}
 use Prim.Native.Nat.{_≤_, _-_}
+use borrow.Author.Needs.{needs}
 use Rattle.bursts.proofs.picture.numbers.Statement.{statement}
 use Rattle.bursts.proofs.picture.numbers.Tie as tie
 
@@ -13,29 +13,29 @@ abbrev μ-loop : tie.MeasureT-loop
 loop-holds : tie.Need-loop-holds Inv-loop μ-loop
 loop-holds c = search needs
 
-slice-aggregate-say-number : tie.Need-slice-aggregate-say-number Inv-loop μ-loop
-slice-aggregate-say-number c = search needs
+slice-aggregate-say : tie.Need-slice-aggregate-say Inv-loop μ-loop
+slice-aggregate-say c = search needs
 
 across-requires : tie.Need-across-requires Inv-loop μ-loop
 across-requires c κs = search needs
 
-say-number-requires : tie.Need-say-number-requires Inv-loop μ-loop
-say-number-requires c κs = search needs
+say-requires : tie.Need-say-requires Inv-loop μ-loop
+say-requires c κs = search needs
 
-slice-aggregate-say-number-2 : tie.Need-slice-aggregate-say-number-2 Inv-loop μ-loop
-slice-aggregate-say-number-2 c = search needs
+slice-aggregate-say-2 : tie.Need-slice-aggregate-say-2 Inv-loop μ-loop
+slice-aggregate-say-2 c = search needs
 
 place-requires : tie.Need-place-requires Inv-loop μ-loop
 place-requires c κs = search needs
 
-say-number-requires-2 : tie.Need-say-number-requires-2 Inv-loop μ-loop
-say-number-requires-2 c κs = search needs
+say-requires-2 : tie.Need-say-requires-2 Inv-loop μ-loop
+say-requires-2 c κs = search needs
 
-slice-aggregate-say : tie.Need-slice-aggregate-say Inv-loop μ-loop
-slice-aggregate-say c = search needs
+slice-aggregate-write : tie.Need-slice-aggregate-write Inv-loop μ-loop
+slice-aggregate-write c = search needs
 
-say-requires : tie.Need-say-requires Inv-loop μ-loop
-say-requires c κs = search needs
+write-requires : tie.Need-write-requires Inv-loop μ-loop
+write-requires c κs = search needs
 
 add-i : tie.Need-add-i Inv-loop μ-loop
 add-i c = search needs
@@ -56,14 +56,14 @@ numbers-spec =
     Inv-loop
     μ-loop
     loop-holds
-    slice-aggregate-say-number
-    across-requires
-    say-number-requires
-    slice-aggregate-say-number-2
-    place-requires
-    say-number-requires-2
     slice-aggregate-say
+    across-requires
     say-requires
+    slice-aggregate-say-2
+    place-requires
+    say-requires-2
+    slice-aggregate-write
+    write-requires
     add-i
     loop-less
     loop-again
