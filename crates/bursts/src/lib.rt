@@ -10,7 +10,7 @@ ghost use Prim.Native.Nat.{_≤_};
 // The longest burst that is shown.
 pub const LONGEST: u32 = 1024;
 
-// A length that is shown: none is above LONGEST, and a burst has a byte.
+// The length that is shown: at least 1, at most LONGEST.
 fn limited(length: u32) -> u32
     ensures { λ r. ⌜ (1 ≤ r) × (r ≤ 1024) ⌝ }
 {

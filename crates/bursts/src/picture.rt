@@ -9,7 +9,7 @@ use words::text::say;
 use words::text::write;
 ghost use Prim.Native.Nat.{_≤_};
 
-// No byte is later.
+// No byte comes out more places than this behind its own number.
 const DELAY: u64 = 2244;
 
 // Where byte i comes out, counted from the burst's first.

@@ -11,11 +11,18 @@ use lib.Arith.{digits-mod}
 use lib.ListN.{length, getD, replicate}
 use Rattle.laws.specs.declared.Way.the-variants.{Deinterleaver}
 use Rattle.delay.specs.Machine.{offset, slotAt, runOutput, delayAt, comesAt, spreadOf}
+use Rattle.delay.specs.Cuts.{length-output}
 use Rattle.delay.specs.Delay.{late-early, same-delay, brings, fresh}
 
 -- how many places two lie apart
 abbrev pub distance : ℕ → ℕ → ℕ
 distance u v = u - v + (v - u)
+
+before : (u v d : ℕ) → v + d ≤ u → d ≤ distance u v
+before u v d h = omega (arith, h)
+
+behind : (u v d : ℕ) → u + d ≤ v → d ≤ distance u v
+behind u v d h = omega (arith, h)
 
 module _ {A : Type 0} (f : A) where
   -- bytes that can be told apart: none is the fill, and no two are equal
@@ -37,6 +44,9 @@ module _ (b s : ℕ) (hb : 0 < b) (hs : 0 < s) where
   comes-late : (a : ℕ) → comesAt b s a ≡ a + delay a
   unfolding comesAt delayAt
   comes-late a = rw (mul-comm s b)
+
+  pub comes-behind : (a : ℕ) → a ≤ comesAt b s a
+  comes-behind a = rw (comes-late a) (omega arith)
 
   -- .. which is the delay at that place, too ..
   its-delay : (a : ℕ) → comesAt b s a ≡ a + delay (comesAt b s a)
@@ -63,7 +73,7 @@ module _ (b s : ℕ) (hb : 0 < b) (hs : 0 < s) where
     comes-out a h = stands a (comesAt b s a) h (its-delay a)
 
     -- .. and at no other
-    pub no-other : Labels f xs → (a u : ℕ) → a < length xs → u < length xs → getD output u f ≡ getD xs a f → u ≡ comesAt b s a
+    no-other : Labels f xs → (a u : ℕ) → a < length xs → u < length xs → getD output u f ≡ getD xs a f → u ≡ comesAt b s a
     no-other labels a u l h e = go (decLt u (delay u))
       where
         go : Dec (u < delay u) → u ≡ comesAt b s a
@@ -75,17 +85,13 @@ module _ (b s : ℕ) (hb : 0 < b) (hs : 0 < s) where
             let own : u - delay u ≡ a = labels .own (u - delay u) a (omega arith) l (sym (stands (u - delay u) u h k) ∙ e) in
             its-place a u (omega (arith, k, own))
 
-  -- it is never before the byte
-  pub comes-behind : (a : ℕ) → a ≤ comesAt b s a
-  comes-behind a = rw (comes-late a) (omega arith)
+    pub only : Labels f xs → (a : ℕ) → comesAt b s a < length xs → Only f output (comesAt b s a) (getD xs a f)
+    only labels a l =
+        let long : length output ≡ length xs = length-output (slotAt Deinterleaver b s) suc xs 0 (replicate (offset s b) f) in
+        let la : a < length xs = omega (arith, l, comes-behind a) in
+        record { within = rw long l; there = comes-out a l; nowhere-else = λ w lw e. no-other labels a w la (rw long at lw) e }
 
   -- ---- two near bytes
-
-  before : (u v d : ℕ) → v + d ≤ u → d ≤ distance u v
-  before u v d h = omega (arith, h)
-
-  behind : (u v d : ℕ) → u + d ≤ v → d ≤ distance u v
-  behind u v d h = omega (arith, h)
 
   more : (d : ℕ) → b * s + d ≤ b * s * suc d
   more d = omega (arith, mul-suc (b * s) d, mul-comm (b * s) d, le-mul-of-pos-right d (mul-pos hb hs))

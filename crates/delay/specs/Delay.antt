@@ -92,6 +92,10 @@ module _ (way : Way) (b s : ℕ) (hb : 0 < b) (hs : 0 < s) where
     abbrev pub want : ℕ → A
     want u = late f (delayAt way b s u) input u
 
+    -- which is the byte that lies its delay before it
+    pub brings : (t u : ℕ) → u ≡ t + delayAt way b s u → want u ≡ input t
+    brings t u e = ap (λ (k : ℕ). late f (delayAt way b s u) input k) e ∙ late-from f (delayAt way b s u) input t
+
     -- before byte t the store holds, for each byte of the coming delay, what it will bring out
     abbrev Holds : ℕ → List A → Type 0
     Holds t store = (u i : ℕ) → t ≤ u → u < t + delayAt way b s u → slotAt way b s u ≡ place i → getD store i f ≡ want u
@@ -99,10 +103,6 @@ module _ (way : Way) (b s : ℕ) (hb : 0 < b) (hs : 0 < s) where
     holds-start : Holds 0 (replicate (offset s b) f)
     holds-start u i h g e =
         getD-replicate (offset s b) i f f (slotAt-in way b s u i hs hb e) ∙ sym (late-early f (delayAt way b s u) input u (omega arith))
-
-    -- which is the byte that lies its delay before it
-    pub brings : (t u : ℕ) → u ≡ t + delayAt way b s u → want u ≡ input t
-    brings t u e = ap (λ (k : ℕ). late f (delayAt way b s u) input k) e ∙ late-from f (delayAt way b s u) input t
 
     holds-next : (t : ℕ) (store : List A) → length store ≡ offset s b → Holds t store → Holds (suc t) (keeps (slotAt way b s t) store (input t))
     holds-next t store l hold u i h g e = go (slotAt way b s t) refl (decLt u (t + delayAt way b s u))

@@ -4,6 +4,7 @@ pub mod Cuts
 pub mod Delay
 pub mod Round
 pub mod Burst
+pub mod Numbered
 pub mod Lane
 pub mod Past
 pub mod Laning

@@ -65,7 +65,7 @@ delayAt way branches step t = branches * step * ringOf way branches (t % branche
 unfoldable pub comesAt : ℕ → ℕ → ℕ → ℕ
 comesAt branches step a = a + step * branches * (branches - 1 - a % branches)
 
--- at least so many places apart come out two different ones that are fewer places apart than there are branches
+-- two different bytes that are fewer places apart than there are branches come out at least this many places apart
 unfoldable pub spreadOf : ℕ → ℕ → ℕ
 spreadOf branches step = branches * step - 1
 

@@ -10,7 +10,7 @@ use lib.Seq.{ext-getD, getD-take, getD-append-add, length-take-le}
 use Rattle.laws.specs.declared.Way.the-variants.{Interleaver, Deinterleaver}
 use Rattle.delay.specs.Machine.{offset, slotAt, runOutput, delayAt, late}
 use Rattle.delay.specs.Cuts.{length-output}
-use Rattle.delay.specs.Delay.{late-early, late-from, same-delay, fresh}
+use Rattle.delay.specs.Delay.{late-early, late-from, same-delay, brings, fresh}
 
 -- two delays add up
 late-late : {A : Type 0} (f : A) (d e : ℕ) (input : ℕ → A) (t : ℕ) → late f (d + e) input (t + e) ≡ late f d input t
@@ -48,7 +48,7 @@ module _ (b s : ℕ) (hb : 0 < b) (hs : 0 < s) where
       go (no n) =
           let k : t - d + d ≡ t = omega (arith, n) in
           let g : t - d < length xs = omega arith in
-          ap (late f d (λ m. getD ys m f)) (sym k) ∙ late-from f d (λ m. getD ys m f) (t - d)
+          brings Deinterleaver b s hb hs f (λ m. getD ys m f) (t - d) t (sym k)
           ∙ fresh Interleaver b s hb hs f xs (t - d) g
           ∙ ap (λ (m : ℕ). late f m (λ n. getD xs n f) (t - d)) (sym (same-delay Deinterleaver b s hb hs Interleaver (t - d) t) ∙ ap (delayAt Interleaver b s) k)
           ∙ sym (late-late f (delayAt Interleaver b s t) d (λ n. getD xs n f) (t - d))

@@ -127,9 +127,7 @@ module _ {A : Type 0} where
       → Fresh f s store → Calls Interleaver s store xs ys s′ store′ → Fresh f d store₁ → Calls Deinterleaver d store₁ ys zs d′ store₂
       → zs ≡ take (length xs) (replicate 2244 f ++ xs)
   returned {f} {xs = xs} {ys = ys} {zs = zs} h c g e =
-      let a : length ys ≡ length xs = ap length (counted h c) ∙ length-output (slotAt Interleaver 12 17) suc xs 0 (replicate (offset 17 12) f) in
-      let b : length zs ≡ length ys = ap length (counted g e) ∙ length-output (slotAt Deinterleaver 12 17) suc ys 0 (replicate (offset 17 12) f) in
-      late-list f 2244 xs zs (b ∙ a) (λ t l. rw (counted g e, counted h c) (round 12 17 (lit< tt) (lit< tt) f xs t l))
+      late-list f 2244 xs zs (as-long e ∙ as-long c) (λ t l. rw (counted g e, counted h c) (round 12 17 (lit< tt) (lit< tt) f xs t l))
 
   -- the record after it all: as many bytes as were fed, modulo 5,654,880
   pub last-record : {way : Way} {f : A} {s s′ : Stream} {store xs ys store′ : List A} → Fresh f s store → Calls way s store xs ys s′ store′

@@ -1,8 +1,8 @@
 -- The invariant: d is the least distance of byte k from bytes 0 to i - 1.
-use mathlib.Core.Path.{_≡_, refl}
+use mathlib.Core.Path.{_≡_, refl, ap, _∙_}
 use native.Mathlib.Omega.{arith}
 use borrow.Author.Needs.{needs}
-use Prim.Native.Nat.{_≤_, _-_}
+use Prim.Native.Nat.{ℕ, _≤_, _-_, min}
 use Rattle.channel.specs.Nearest.{apart, Gone, gone-one, gone-more, gone-before}
 use Rattle.channel.proofs.from_earlier.Statement.{statement}
 use Rattle.channel.proofs.from_earlier.Tie as tie
@@ -33,7 +33,7 @@ loop-less c = search needs
 
 loop-again : tie.Need-loop-again Inv-loop μ-loop
 loop-again c = (
-  gone-more _ _ _ _ _ (c .before .before .before .loop .inv .0) refl (cc (c .smaller .ensures, c .before .distance2 .ensures)),
+  gone-more _ _ _ _ _ (c .before .before .before .loop .inv .0) refl (c .smaller .ensures ∙ ap (λ (e : ℕ). min (c .before .before .before .loop .d) e) (c .before .distance2 .ensures)),
   omega (arith, c .before .before .loop-test .taken),
 )
 

@@ -1,6 +1,7 @@
 -- The invariant: d is the least distance between any two of the first k bytes.
+use mathlib.Core.Path.{ap, _∙_}
 use native.Mathlib.Omega.{arith}
-use Prim.Native.Nat.{_≤_, _-_}
+use Prim.Native.Nat.{ℕ, _≤_, _-_, min}
 use Rattle.channel.specs.Nearest.{nearestBefore, Gone, gone-one, gone-more, gone-all}
 use borrow.Author.Needs.{needs}
 use Rattle.channel.proofs.nearest.Statement.{statement}
@@ -33,7 +34,7 @@ loop-less c = search needs
 loop-again : tie.Need-loop-again Inv-loop μ-loop
 loop-again c =
     let i = c .before .before .before .loop .inv in (
-      gone-more _ _ _ _ _ (i .0) (omega (arith, i .1)) (cc (c .smaller .ensures, c .before .from-earlier2 .ensures)),
+      gone-more _ _ _ _ _ (i .0) (omega (arith, i .1)) (c .smaller .ensures ∙ ap (λ (e : ℕ). min (c .before .before .before .loop .d) e) (c .before .from-earlier2 .ensures)),
       omega (arith, i .1),
       omega (arith, i .1, c .before .before .loop-test .taken),
     )
