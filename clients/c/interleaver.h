@@ -71,18 +71,18 @@ static inline interleaver_set interleaver_set_of(uint32_t profile, uint32_t bits
 /* The test of a parameter set. Refusals 1, 2, 3, 16. */
 uint32_t interleaver_test(const interleaver_set *set);
 
-/* One address: *address = L(t), or M(k). Refusals 1, 2, 3, 16, 8, 4. */
+/* One address: *address = L(t), or M(k). Refusals 1, 2, 3, 16, 11, 10, 8, 4. */
 uint32_t interleaver_address_l(const interleaver_set *set, uint32_t t, uint32_t *address);
 uint32_t interleaver_address_m(const interleaver_set *set, uint32_t k, uint32_t *address);
 
 /* A walk: the addresses of L, or of M, from *cell on, until out is full or no cell is left; begin with *cell = 0, and hand *cell on, until
    *written is below out_len: then the walk is at its end. A cell is a place of the list, or for profile 5 of a rectangle, where some cells are padding
    and have no address. *written is how many addresses were written, *cells how many cells were passed. The rest of out
-   keeps what it held. Refusals of the walk for L 1, 2, 3, 16, 8, 9; of the walk for M 1 (profile 5 too), 2, 3, 16, 9. */
+   keeps what it held. Refusals of the walk for L 1, 2, 3, 16, 11, 10, 8, 9; of the walk for M 1 (profile 5 too), 2, 3, 16, 9. */
 uint32_t interleaver_walk_l(const interleaver_set *set, uint32_t *cell, uint16_t *out, size_t out_len, uint32_t *written, uint32_t *cells);
 uint32_t interleaver_walk_m(const interleaver_set *set, uint32_t *cell, uint16_t *out, size_t out_len, uint32_t *written, uint32_t *cells);
 
-/* A whole block from src into dst, both n long. No symbol is looked at; a float's 32 bits are copied. Refusals 1, 2, 3, 16, 8, 5, 6. */
+/* A whole block from src into dst, both n long. No symbol is looked at; a float's 32 bits are copied. Refusals 1, 2, 3, 16, 11, 10, 8, 5, 6. */
 uint32_t interleaver_interleave_bytes(const interleaver_set *set, const uint8_t *src, size_t src_len, uint8_t *dst, size_t dst_len);
 uint32_t interleaver_deinterleave_bytes(const interleaver_set *set, const uint8_t *src, size_t src_len, uint8_t *dst, size_t dst_len);
 uint32_t interleaver_interleave_soft(const interleaver_set *set, const float *src, size_t src_len, float *dst, size_t dst_len);
@@ -98,14 +98,14 @@ uint32_t interleaver_deinterleave_symbols(const interleaver_set *set, uint32_t w
    is a blank. sums and counts, n of each, are by input index: value t goes to L(t). A blank changes nothing; the first present value is stored
    with its bits unchanged, count 1; a later one is added with one rounding, and the count rises by one. Zero is a value. Before a first block
    every count is 0, and the sums may hold anything. A sum is exact while its values are whole eighths whose magnitudes total at most 2,097,152.
-   Refusals 1, 2, 3, 16, 8, 5, 6, 14, 13, 15, each decided over the whole block before the next. 13 looks at the sums where the block is blank too; it
+   Refusals 1, 2, 3, 16, 11, 10, 8, 5, 6, 14, 13, 15, each decided over the whole block before the next. 13 looks at the sums where the block is blank too; it
    looks neither at a blank's value nor at a sum whose count is 0. */
 uint32_t interleaver_add_received(const interleaver_set *set, const float *received, size_t received_len, const uint8_t *present,
                                   size_t present_len, float *sums, size_t sums_len, uint16_t *counts, size_t counts_len);
 
 /* One position, by input index: *sum and *count are what it holds. At a blank, *count is 0, and *sum keeps what it held. A sum that isn't finite is
    read as it is. A reading asks a walk with no room to have the set tested: some 70 instructions for profile 3, and for profile 5, whose whole set-up that
-   is, some 700 to 6,000; a program may as well look into its own sums and counts. Refusals 1, 2, 3, 16, 8, 4, 6. */
+   is, some 700 to 6,000; a program may as well look into its own sums and counts. Refusals 1, 2, 3, 16, 11, 10, 8, 4, 6. */
 uint32_t interleaver_read_sum(const interleaver_set *set, const float *sums, size_t sums_len, const uint16_t *counts, size_t counts_len,
                               uint32_t position, float *sum, uint16_t *count);
 

@@ -31,7 +31,7 @@ fn move_by(way: Way, set: Set, table: &mut [u16], src: &[u8], dst: &mut [u8]) ->
     }
 }
 
-// Moves a block of N bytes, either way. Refusals 1, 2, 3, 16, 8, 5, 6.
+// Moves a block of N bytes, either way. Refusals 1, 2, 3, 16, 11, 10, 8, 5, 6.
 pub fn move_block(way: Way, set: Set, src: &[u8], dst: &mut [u8]) -> Moved
     ensures answer { λ r. ⌜ sayMoved r ≡ movedOf set (set .n) (length (now (src .entry))) (length (now (dst .entry))) ⌝ }
     ensures output { λ r. ⌜ now (dst .exit) ≡ moved way set 0 (now (src .entry)) (now (dst .entry)) ⌝ }

@@ -32,7 +32,7 @@ fn move_by(way: Way, set: Set, table: &mut [u16], src: &[f32], dst: &mut [f32]) 
     }
 }
 
-// Moves a block of N soft values, either way. Refusals 1, 2, 3, 16, 8, 5, 6.
+// Moves a block of N soft values, either way. Refusals 1, 2, 3, 16, 11, 10, 8, 5, 6.
 pub fn move_block(way: Way, set: Set, src: &[f32], dst: &mut [f32]) -> Moved
     ensures answer { λ r. ⌜ sayMoved r ≡ movedOf set (set .n) (length (now (src .entry))) (length (now (dst .entry))) ⌝ }
     ensures output { λ r. ⌜ now (dst .exit) ≡ moved way set nan (now (src .entry)) (now (dst .entry)) ⌝ }

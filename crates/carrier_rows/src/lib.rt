@@ -1,8 +1,8 @@
 // L: one address, and the walk, a row of the output at a time. The walk divides when it is set up and never after. The
 // public functions are leaf functions: the crate above them tests a set first, and shows what they require.
-use carrier::least;
 use laws::Leaf;
 use laws::Single;
+use residues::least;
 ghost use mathlib.Core.Path.{_≡_};
 ghost use Prim.Native.Nat.{ℕ, _+_, _-_, _*_, _/_, _%_, _<_};
 ghost use Rattle.laws.specs.Sized.{Sized};

@@ -2,10 +2,10 @@
 // the two steps from the cell that lies the turn ahead, in two pieces where it passes N, since there it begins again at 0. M is the walk for M of
 // the two steps, and a pass over what it wrote that takes the turn off. A walk divides when it is set up, and never after. The public
 // functions are leaf functions: the crate above them tests a set first, and shows what they require.
-use carrier::least;
 use carrier::turn_of;
 use laws::Leaf;
 use laws::Single;
+use residues::least;
 ghost use mathlib.Core.Path.{_≡_};
 ghost use Prim.Native.Nat.{ℕ, _+_, _-_, _%_, _<_};
 ghost use Rattle.laws.specs.Fill.{Filled};

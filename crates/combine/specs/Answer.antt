@@ -29,7 +29,7 @@ abbrev pub lentLines : Set → Reception → Kept → List Line
 lentLines s b h =
     line 5 (not (bothLong (s .n) (b .received) (b .present))) ∷ line 6 (not (bothLong (s .n) (h .sums) (h .counts))) ∷ valueLines (L s) (s .n) b h
 
--- adding a block: 1, 2, 3, 16, 8, and these
+-- adding a block: 1, 2, 3, 16, 11, 10, 8, and these
 unfoldable pub addLines : Set → Reception → Kept → List Line
 addLines s b h = planLines s ++ lentLines s b h
 
@@ -54,7 +54,7 @@ pub data Standing : Type 0 where
 abbrev pub toldOf : Running → Standing
 toldOf r = cond (eqb (r .count) 0) blank (soft r)
 
--- reading position k: 1, 2, 3, 16, 8, 4 a position that is N or more, 6 the sums or the counts aren't N
+-- reading position k: 1, 2, 3, 16, 11, 10, 8, 4 a position that is N or more, 6 the sums or the counts aren't N
 unfoldable pub readLines : Set → Kept → ℕ → List Line
 readLines s h k = planLines s ++ (line 4 (leb (s .n) k) ∷ line 6 (not (bothLong (s .n) (h .sums) (h .counts))) ∷ [])
 

@@ -1,4 +1,4 @@
--- What stands behind each return of a reading: the walk from the first cell, which tells 1, 2, 3, 16 and 8, then the position and the two lengths.
+-- What stands behind each return of a reading: the walk from the first cell, which tells 1, 2, 3, 16, 11, 10 and 8, then the position and the two lengths.
 use Prim.Native.Nat.{ℕ, _≤_, _<_}
 use mathlib.Core.Bool.{not}
 use mathlib.Core.List.{List, [], _∷_}

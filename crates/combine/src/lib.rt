@@ -58,7 +58,7 @@ fn add_by(
 }
 
 // Adds a received block to what is stored: value t at input index L(t). A blank changes nothing; the first present value is stored as it is, count 1;
-// later ones are added with one rounding each, and the count rises by one. Refusals 1, 2, 3, 16, 8, 5, 6, 14, 13, 15.
+// later ones are added with one rounding each, and the count rises by one. Refusals 1, 2, 3, 16, 11, 10, 8, 5, 6, 14, 13, 15.
 pub fn add(
     set: Set,
     received: &[f32],
@@ -96,7 +96,7 @@ fn reading_at(held: Running) -> Reading
     Reading::Soft(held)
 }
 
-// Reads a position, by input index. Refusals 1, 2, 3, 16, 8, 4, 6.
+// Reads a position, by input index. Refusals 1, 2, 3, 16, 11, 10, 8, 4, 6.
 pub fn read(set: Set, sums: &[f32], counts: &[u16], position: u32) -> Reading
     ensures { λ r. ⌜ sayReading r ≡ readOf set (kept (now (sums .entry)) (now (counts .entry))) position ⌝ }
 {

@@ -1,4 +1,6 @@
 // The sets that are compared.
+use lte::Given;
+use sets::Factors;
 use sets::Set;
 use sets::Verdict;
 
@@ -9,6 +11,7 @@ fn carrier_at(i: u32) -> Set {
         bits: i / 1536 % 6 + 1,
         n: i % 1536 + 1,
         stream: 1,
+        factors: sets::no_factors(),
     }
 }
 
@@ -19,6 +22,7 @@ fn spatial_at(i: u32) -> Set {
         bits: i / 3888 % 6 + 1,
         n: i % 648 + 1,
         stream: i / 648 % 6,
+        factors: sets::no_factors(),
     }
 }
 
@@ -28,7 +32,31 @@ pub fn turbo_set(k: u32) -> Set {
         bits: 1,
         n: k,
         stream: 1,
+        factors: sets::no_factors(),
     }
+}
+
+fn standard(k: u32) -> Factors {
+    match lte::factors(k) {
+        Given::Of(f) => f,
+        Given::Refused(_) => sets::no_factors(),
+    }
+}
+
+// A set of profile 8.
+pub fn quadratic_set(k: u32, factors: Factors) -> Set {
+    Set {
+        profile: 8,
+        bits: 1,
+        n: k,
+        stream: 1,
+        factors,
+    }
+}
+
+// The same with LTE's own factors.
+fn lte_set(k: u32) -> Set {
+    quadratic_set(k, standard(k))
 }
 
 fn carrier_set(profile: u32, bits: u32, n: u32) -> Set {
@@ -41,11 +69,12 @@ fn spatial_set(profile: u32, bits: u32, n: u32, stream: u32) -> Set {
         bits,
         n,
         stream,
+        factors: sets::no_factors(),
     }
 }
 
-// Fourteen sets: each R and C, both orders of twenty, each s, and two that are turned.
-pub fn fourteen_at(i: u32) -> Set {
+// Sixteen sets: each R and C, both orders of twenty, each s, two that are turned, and LTE's shortest and longest.
+pub fn sixteen_at(i: u32) -> Set {
     match i {
         0 => turbo_set(40),
         1 => turbo_set(41),
@@ -60,11 +89,13 @@ pub fn fourteen_at(i: u32) -> Set {
         10 => carrier_set(1, 6, 1152),
         11 => carrier_set(4, 2, 1536),
         12 => spatial_set(6, 2, 104, 2),
-        _ => spatial_set(7, 6, 648, 4),
+        13 => spatial_set(7, 6, 648, 4),
+        14 => lte_set(40),
+        _ => lte_set(6144),
     }
 }
 
-// A choice of sets: 0 profiles 1 to 4, 1 profile 5, 2 the fourteen, 3 profiles 6 and 7.
+// A choice of sets: 0 profiles 1 to 4, 1 profile 5, 2 the sixteen, 3 profiles 6 and 7, 4 profile 8, sizes 1 to 6,144, most of them refused.
 pub fn set_at(choice: u32, i: u32) -> Set {
     if choice == 0 {
         return carrier_at(i);
@@ -75,7 +106,10 @@ pub fn set_at(choice: u32, i: u32) -> Set {
     if choice == 3 {
         return spatial_at(i);
     }
-    fourteen_at(i)
+    if choice == 4 {
+        return lte_set(i % 6144 + 1);
+    }
+    sixteen_at(i)
 }
 
 pub fn sets_in(choice: u32) -> u32 {
@@ -88,7 +122,10 @@ pub fn sets_in(choice: u32) -> u32 {
     if choice == 3 {
         return 46656;
     }
-    14
+    if choice == 4 {
+        return 6144;
+    }
+    16
 }
 
 pub fn accepted(set: Set) -> bool {

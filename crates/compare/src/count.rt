@@ -52,7 +52,7 @@ impl Count {
     }
 }
 
-fn number(text: &[u8], n: u64) {
+pub fn number(text: &[u8], n: u64) {
     io::write_all(STDOUT_FILENO, text);
     io::print_decimal(STDOUT_FILENO, n);
 }

@@ -12,12 +12,13 @@ use second::Whole;
 use second::num::move_on;
 use sets::Set;
 
-// How a list is made: right; or wrong on purpose, one place off, without the exchange at full rectangles, or with no stream turned.
+// How a list is made: right; or wrong on purpose, one place off, without the exchange at full rectangles, with no stream turned, or with t for t².
 pub enum Made {
     Right,
     Off,
     Unexchanged,
     Unturned,
+    Unsquared,
 }
 
 fn one_off(way: Way, set: Set, list: &mut [u16]) -> Whole {
@@ -33,6 +34,7 @@ pub fn list_of(way: Way, set: Set, made: Made, list: &mut [u16]) -> Whole {
         Made::Off => one_off(way, set, list),
         Made::Unexchanged => second::unexchanged(set, list),
         Made::Unturned => second::unturned(way, set, list),
+        Made::Unsquared => second::squares::unsquared(set, list),
     }
 }
 
@@ -97,7 +99,7 @@ fn walk_each(
 }
 
 pub fn walks_of(way: Way, title: &[u8], choice: u32, size: usize) -> u64 {
-    let mut list = [0u16; 12000];
+    let mut list = [0u16; 12288];
     let mut slice = [0u16; 6144];
     let c = walk_each(way, choice, size, Made::Right, &mut list, &mut slice);
     count::walks_line(title, c);
@@ -157,7 +159,7 @@ pub fn every_spatial_m() -> u64 {
 
 // K 40 against its list one place off: what is counted here is in no total.
 pub fn wrong_walk() {
-    let mut list = [0u16; 12000];
+    let mut list = [0u16; 12288];
     let mut slice = [0u16; 6144];
     let c = walk_one(
         Way::Interleaver,
@@ -172,7 +174,7 @@ pub fn wrong_walk() {
 
 // Every K against its list without the exchange: the sizes that it touches, each at two addresses. In no total either.
 pub fn wrong_exchange() {
-    let mut list = [0u16; 12000];
+    let mut list = [0u16; 12288];
     let mut slice = [0u16; 6144];
     let c = walk_each(
         Way::Interleaver,
@@ -190,8 +192,34 @@ pub fn wrong_exchange() {
 
 // L and M of profiles 6 and 7 against the lists with no stream turned: the sets that are. In no total either.
 pub fn wrong_turn(way: Way, title: &[u8]) {
-    let mut list = [0u16; 12000];
+    let mut list = [0u16; 12288];
     let mut slice = [0u16; 6144];
     let c = walk_each(way, 3, 0, Made::Unturned, &mut list, &mut slice);
     count::walks_line(title, c);
+}
+
+// The sizes of LTE with its own factors, whole and in slices.
+pub fn every_lte() -> u64 {
+    let a = every(
+        Way::Interleaver,
+        4,
+        b"L of profile 8, whole",
+        b"L of profile 8, slices of 1024",
+    );
+    sum(a, walks_of(Way::Interleaver, b"L of profile 8, slices of 7", 4, 7))
+}
+
+// L of profile 8 against its lists with t for t². In no total either.
+pub fn wrong_square() {
+    let mut list = [0u16; 12288];
+    let mut slice = [0u16; 6144];
+    let c = walk_each(
+        Way::Interleaver,
+        4,
+        0,
+        Made::Unsquared,
+        &mut list,
+        &mut slice,
+    );
+    count::walks_line(b"wrong on purpose, L of profile 8 with t for its square", c);
 }

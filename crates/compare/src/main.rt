@@ -1,16 +1,18 @@
 // Compares every whole list with a second computation of it, which divides at each address and shares no function with the walk: all sets
-// of profiles 1 to 4, 6 and 7 and every K, whole and in slices; and for fourteen sets shorter slices, blocks of bytes and single addresses. Each
+// of profiles 1 to 4, 6 and 7, every K of 5 and every K of 8 with LTE's own factors, whole and in slices; the test of f1 and f2 with trying all
+// positions, for every K of 8 up to 128; and for sixteen sets shorter slices, blocks of bytes and single addresses. Each
 // comparison is tried on a list that is wrong on purpose as well, and has to count differences there; every K on its list without the exchange of
 // full rectangles, to count the sizes that the exchange touches; and the sets of 6 and 7 on their lists with no stream turned, to count those that
 // are.
 mod chosen;
 mod count;
+mod decided;
 mod lists;
 mod moves;
 mod num;
 mod slices;
 
-use chosen::fourteen_at;
+use chosen::sixteen_at;
 use count::Count;
 use laws::Way;
 use lists::Made;
@@ -20,7 +22,7 @@ use num::sum;
 
 // Two blocks for each set, of low bytes and of high.
 fn blocks_one(i: u32, made: Made, list: &mut [u16]) -> Count {
-    let set = fourteen_at(i / 2);
+    let set = sixteen_at(i / 2);
     list_of(Way::Interleaver, set, made, list);
     let mut src = [0u8; 6144];
     let mut dst = [0u8; 6144];
@@ -31,7 +33,7 @@ fn blocks_one(i: u32, made: Made, list: &mut [u16]) -> Count {
 fn blocks_each(list: &mut [u16]) -> Count {
     let mut c = Count::none();
     let mut i = 0;
-    while i < 28 {
+    while i < 32 {
         c = c.with(blocks_one(i, Made::Right, list));
         i += 1;
     }
@@ -39,14 +41,14 @@ fn blocks_each(list: &mut [u16]) -> Count {
 }
 
 fn blocks_of(title: &[u8]) -> u64 {
-    let mut list = [0u16; 12000];
+    let mut list = [0u16; 12288];
     let c = blocks_each(&mut list);
     count::short_line(title, c);
     c.differences
 }
 
 fn singles_one(i: u32, made: Made, list: &mut [u16]) -> Count {
-    let set = fourteen_at(i);
+    let set = sixteen_at(i);
     list_of(Way::Interleaver, set, made, list);
     moves::singles(set, list)
 }
@@ -54,7 +56,7 @@ fn singles_one(i: u32, made: Made, list: &mut [u16]) -> Count {
 fn singles_each(list: &mut [u16]) -> Count {
     let mut c = Count::none();
     let mut i = 0;
-    while i < 14 {
+    while i < 16 {
         c = c.with(singles_one(i, Made::Right, list));
         i += 1;
     }
@@ -62,33 +64,33 @@ fn singles_each(list: &mut [u16]) -> Count {
 }
 
 fn singles_of(title: &[u8]) -> u64 {
-    let mut list = [0u16; 12000];
+    let mut list = [0u16; 12288];
     let c = singles_each(&mut list);
     count::short_line(title, c);
     c.differences
 }
 
-fn fourteen_walks() -> u64 {
-    let a = walks_of(Way::Interleaver, b"L of fourteen, slices of 1", 2, 1);
-    let b = walks_of(Way::Interleaver, b"L of fourteen, slices of 7", 2, 7);
-    let c = walks_of(Way::Interleaver, b"L of fourteen, slices of 137", 2, 137);
+fn sixteen_walks() -> u64 {
+    let a = walks_of(Way::Interleaver, b"L of sixteen, slices of 1", 2, 1);
+    let b = walks_of(Way::Interleaver, b"L of sixteen, slices of 7", 2, 7);
+    let c = walks_of(Way::Interleaver, b"L of sixteen, slices of 137", 2, 137);
     sum(a, sum(b, c))
 }
 
-fn fourteen_moves() -> u64 {
-    let a = blocks_of(b"blocks of bytes of fourteen, there and back");
-    let b = singles_of(b"single addresses of fourteen, there and back");
+fn sixteen_moves() -> u64 {
+    let a = blocks_of(b"blocks of bytes of sixteen, there and back");
+    let b = singles_of(b"single addresses of sixteen, there and back");
     sum(a, b)
 }
 
 fn wrong_block() {
-    let mut list = [0u16; 12000];
+    let mut list = [0u16; 12288];
     let c = blocks_one(0, Made::Off, &mut list);
     count::short_line(b"wrong on purpose, a block of K 40", c);
 }
 
 fn wrong_singles() {
-    let mut list = [0u16; 12000];
+    let mut list = [0u16; 12288];
     let c = singles_one(0, Made::Off, &mut list);
     count::short_line(b"wrong on purpose, single addresses of K 40", c);
 }
@@ -102,7 +104,8 @@ fn main() {
         b"L of profile 5, slices of 1024",
     );
     let spatials = sum(lists::every_spatial_l(), lists::every_spatial_m());
-    let fourteen = sum(fourteen_walks(), fourteen_moves());
+    let lte = sum(lists::every_lte(), decided::every());
+    let sixteen = sum(sixteen_walks(), sixteen_moves());
     lists::wrong_walk();
     wrong_block();
     wrong_singles();
@@ -115,5 +118,7 @@ fn main() {
         Way::Deinterleaver,
         b"wrong on purpose, M of profiles 6 and 7 not turned, the sets that are",
     );
-    count::last_line(sum(sum(sum(carriers, turbos), spatials), fourteen));
+    lists::wrong_square();
+    decided::wrong_order();
+    count::last_line(sum(sum(sum(sum(carriers, turbos), spatials), lte), sixteen));
 }

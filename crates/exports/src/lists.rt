@@ -8,7 +8,7 @@ ghost use Rattle.sets.specs.Verdict.{verdictOf};
 ghost use Rattle.walks.specs.Answer.{sliceOf, foundOf, Values};
 ghost use Rattle.flat.specs.Flat.{setOf, walkOf, lentWalk, numberOf, outOf};
 
-// The test of a set. Refusals 1, 2, 3, 16.
+// The test of a set. Refusals 1, 2, 3, 16, 11, 10.
 #[no_mangle]
 pub extern "C" fn interleaver_test(set: &[u32; SET]) -> u32
     ensures { λ r. ⌜ r ≡ numberOf (verdictOf (setOf (now (set .entry)))) ⌝ }
@@ -16,7 +16,7 @@ pub extern "C" fn interleaver_test(set: &[u32; SET]) -> u32
     flat::tested(sets::test(flat::set_of(set)))
 }
 
-// L(t). Refusals 1, 2, 3, 16, 8, 4.
+// L(t). Refusals 1, 2, 3, 16, 11, 10, 8, 4.
 #[no_mangle]
 pub extern "C" fn interleaver_address_l(set: &[u32; SET], t: u32, address: &mut u32) -> u32
     ensures number { λ r. ⌜ r ≡ numberOf (foundOf Interleaver (setOf (now (set .entry))) t) ⌝ }
@@ -26,7 +26,7 @@ pub extern "C" fn interleaver_address_l(set: &[u32; SET], t: u32, address: &mut 
     lent::lists::find(Way::Interleaver, set, t, address)
 }
 
-// M(k). Refusals 1, 2, 3, 16, 8, 4.
+// M(k). Refusals 1, 2, 3, 16, 11, 10, 8, 4.
 #[no_mangle]
 pub extern "C" fn interleaver_address_m(set: &[u32; SET], k: u32, address: &mut u32) -> u32
     ensures number { λ r. ⌜ r ≡ numberOf (foundOf Deinterleaver (setOf (now (set .entry))) k) ⌝ }
@@ -36,7 +36,7 @@ pub extern "C" fn interleaver_address_m(set: &[u32; SET], k: u32, address: &mut 
     lent::lists::find(Way::Deinterleaver, set, k, address)
 }
 
-// The walk for L. Refusals 1, 2, 3, 16, 8, 9.
+// The walk for L. Refusals 1, 2, 3, 16, 11, 10, 8, 9.
 #[no_mangle]
 pub extern "C" fn interleaver_walk_l(
     set: &[u32; SET],
@@ -61,7 +61,7 @@ pub extern "C" fn interleaver_walk_l(
     lent::lists::walk_on(Way::Interleaver, set, cell, out, written, cells)
 }
 
-// The walk for M. Refusals 1, also for profile 5, 2, 3, 16, 9.
+// The walk for M. Refusals 1, also for profiles 5 and 8, 2, 3, 16, 11, 10, 9.
 #[no_mangle]
 pub extern "C" fn interleaver_walk_m(
     set: &[u32; SET],

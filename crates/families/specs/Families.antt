@@ -9,9 +9,10 @@ use Rattle.laws.specs.declared.Single.{Single}
 use Rattle.laws.specs.Walk.{Rule, inWay, LeafOf, SingleOf}
 use Rattle.sets.specs.declared.Set.{Set}
 use Rattle.profiles.specs.declared.Family.{Family}
-use Rattle.profiles.specs.declared.Family.the-variants.{Carrier, Spatial, Turbo}
-use Rattle.sets.specs.Set.{isTurbo, rowsOf, rotationOf, groupOf}
-use Rattle.sets.specs.Carried.{Carried, carried, stream-in, turbo-size}
+use Rattle.profiles.specs.declared.Family.the-variants.{Carrier, Spatial, Turbo, Quadratic}
+use Rattle.sets.specs.Set.{rowsOf, rotationOf, groupOf, f1, f2}
+use Rattle.sets.specs.Fit.{Carried}
+use Rattle.sets.specs.Carried.{carrier-size, spatial-size, stream-in, turbo-size, quadratic-size}
 use Rattle.carrier.specs.Formula.{carrierRule}
 use Rattle.carrier.specs.Block.{Whole}
 use Rattle.carrier_turned.specs.declared.Stream.{Stream}
@@ -19,6 +20,8 @@ use Rattle.carrier_turned.specs.Turned.{ruleBy}
 use Rattle.carrier_turned.specs.Turned as leaf
 use Rattle.wcdma_shape.specs.Rectangle.{Size}
 use Rattle.wcdma.specs.Turbo.{turboRule}
+use Rattle.quadratic.specs.Formula.{quadraticRule}
+use Rattle.quadratic_walk.specs.Spot as squares
 use Rattle.families.specs.Rules.{familyRule, ruleOf, ruleIn, barred, rule-is}
 use Rattle.families.specs.Taken.{Taken}
 
@@ -28,7 +31,7 @@ whole-of s z = record { size = z .sized; small = omega (arith, z .small) }
 
 module _ {s : Set} (t : Taken s Carrier) {d g : ℕ} (p : d ≡ rowsOf s) (q : g ≡ groupOf s) where
   pub carrier-whole : Whole d (s .n) g
-  carrier-whole = rw (p, q) (whole-of s (carried s (t .accepted) (ap isTurbo (t .which))))
+  carrier-whole = rw (p, q) (whole-of s (carrier-size s (t .accepted) (t .which)))
 
   pub carrier-rule : carrierRule d (s .n) g ≡ ruleOf s
   carrier-rule = ap₂ (λ (d g : ℕ). carrierRule d (s .n) g) p q ∙ sym (rule-is s (t .which))
@@ -40,7 +43,7 @@ streamOf s = record { d = rowsOf s; n = s .n; s = groupOf s; bits = s .bits; r =
 module _ {s : Set} (t : Taken s Spatial) {b : Stream} (e : b ≡ streamOf s) where
   pub spatial-block : leaf.Spatial b
   spatial-block =
-      let z = carried s (t .accepted) (ap isTurbo (t .which)) in
+      let z = spatial-size s (t .accepted) (t .which) in
       let i = stream-in s (t .accepted) in
       rw e (record { whole = whole-of s z; first = i .0; last = i .1; below = z .below })
 
@@ -61,6 +64,15 @@ module _ {s : Set} (t : Taken s Turbo) where
 
   pub turbo-rule : turboRule (s .n) ≡ ruleOf s
   turbo-rule = sym (rule-is s (t .which))
+
+module _ {s : Set} (t : Taken s Quadratic) where
+  pub quadratic-whole : squares.Whole (s .n) (f1 s) (f2 s)
+  quadratic-whole =
+      let z = quadratic-size s (t .accepted) (t .which) in
+      record { size = z .size; small = omega (arith, z .small); first-in = z .first-in; second-in = z .second-in }
+
+  pub quadratic-rule : quadraticRule (s .n) (f1 s) (f2 s) ≡ ruleOf s
+  quadratic-rule = sym (rule-is s (t .which))
 
 -- what a leaf promises of the rule that it serves, it promises of the set's, in the way that it was asked for
 module _ (s : Set) {q : Rule} (e : q ≡ ruleOf s) (asked : Way) {way : Way} (p : way ≡ asked) where

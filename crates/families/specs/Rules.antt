@@ -10,29 +10,33 @@ use Rattle.laws.specs.declared.Way.the-variants.{Interleaver, Deinterleaver}
 use Rattle.laws.specs.Walk.{Rule, inWay, Lawful, lawful-in}
 use Rattle.sets.specs.declared.Set.{Set}
 use Rattle.profiles.specs.declared.Family.{Family}
-use Rattle.profiles.specs.declared.Family.the-variants.{Carrier, Spatial, Turbo}
-use Rattle.sets.specs.Set.{familyOf, isTurbo, rowsOf, rotationOf, groupOf}
+use Rattle.profiles.specs.declared.Family.the-variants.{Carrier, Spatial, Turbo, Quadratic}
+use Rattle.sets.specs.Set.{familyOf, rowsOf, rotationOf, groupOf, f1, f2}
 use Rattle.sets.specs.Verdict.{verdictOf}
-use Rattle.sets.specs.Carried.{carried, stream-in, turbo-size}
+use Rattle.sets.specs.Carried.{carrier-size, spatial-size, stream-in, turbo-size, quadratic-size}
 use Rattle.carrier.specs.Formula.{carrierL, carrierM, carrierRule}
 use Rattle.carrier.specs.Once.{carrier-lawful}
 use Rattle.carrier.specs.Third.{turn, spatialL, spatialM, spatialRule}
 use Rattle.carrier.specs.Turned.{turn-below, spatial-lawful, first-l, first-m}
 use Rattle.wcdma.specs.Turbo.{turboRule}
 use Rattle.wcdma.specs.Law.{turbo-lawful}
+use Rattle.quadratic.specs.Formula.{quadraticRule}
+use Rattle.quadratic.specs.Law.{quadratic-lawful}
 
 -- the rule of a set of a family: of the carrier interleavers by d, N and s, of spatial streams by bits, r and the
--- stream as well, of the turbo interleaver by K
+-- stream as well, of the turbo interleaver by K, of the quadratic interleaver by K, f1 and f2
 abbrev pub familyRule : Family → Set → Rule
 familyRule Carrier s = carrierRule (rowsOf s) (s .n) (groupOf s)
 familyRule Spatial s = spatialRule (rowsOf s) (s .n) (groupOf s) (s .bits) (rotationOf s) (s .stream)
 familyRule Turbo s = turboRule (s .n)
+familyRule Quadratic s = quadraticRule (s .n) (f1 s) (f2 s)
 
 -- its M is not walked: the walk for M is refused with 1
 abbrev pub oneWay : Family → Bool
 oneWay Carrier = false
 oneWay Spatial = false
 oneWay Turbo = true
+oneWay Quadratic = true
 
 unfoldable pub ruleOf : Set → Rule
 ruleOf s = familyRule (familyOf s) s
@@ -63,7 +67,7 @@ rule-is s e = ap (λ (f : Family). familyRule f s) e
 pub turned-below : (s : Set) → verdictOf s ≡ done tt → familyOf s ≡ Spatial → turn (s .bits) (rotationOf s) (s .stream) < s .n
 turned-below s e q =
     let i = stream-in s e in
-    turn-below (s .n) (s .bits) (rotationOf s) (s .stream) (i .0) (i .1) (carried s e (ap isTurbo q) .below)
+    turn-below (s .n) (s .bits) (rotationOf s) (s .stream) (i .0) (i .1) (spatial-size s e q .below)
 
 -- the laws, family by family
 pub lawful : (s : Set) → verdictOf s ≡ done tt → Lawful (s .n) (ruleOf s)
@@ -71,11 +75,14 @@ unfolding ruleOf
 lawful s e = go (familyOf s) refl
   where
     go : (f : Family) → familyOf s ≡ f → Lawful (s .n) (familyRule f s)
-    go Carrier q = let z = carried s e (ap isTurbo q) in carrier-lawful (z .sized) (omega (arith, z .small))
+    go Carrier q = let z = carrier-size s e q in carrier-lawful (z .sized) (omega (arith, z .small))
     go Spatial q =
-        let z = carried s e (ap isTurbo q) in
+        let z = spatial-size s e q in
         spatial-lawful (z .sized) (s .bits) (rotationOf s) (s .stream) (turned-below s e q) (omega (arith, z .small))
     go Turbo q = turbo-lawful (s .n) (turbo-size s e q .1)
+    go Quadratic q =
+        let z = quadratic-size s e q in
+        quadratic-lawful (s .n) (f1 s) (f2 s) (z .size) (omega (arith, z .small)) (z .apart)
 
 pub lawful-way : (way : Way) (s : Set) → verdictOf s ≡ done tt → Lawful (s .n) (ruleIn way s)
 lawful-way way s e = lawful-in (lawful s e) way
@@ -91,7 +98,7 @@ module _ (s : Set) (e : verdictOf s ≡ done tt) (q : familyOf s ≡ Spatial) wh
   pub stream-one : s .stream ≡ 1 → (t : ℕ) → t < s .n
       → (L s t ≡ carrierL (rowsOf s) (s .n) (groupOf s) t) × (M s t ≡ carrierM (rowsOf s) (s .n) (groupOf s) t)
   stream-one o t l =
-      let z = carried s e (ap isTurbo q) .sized in (
+      let z = spatial-size s e q .sized in (
         ap (λ (r : Rule). r .l t) (rule-is s q) ∙ ap (λ (i : ℕ). spatialL (rowsOf s) (s .n) (groupOf s) (s .bits) (rotationOf s) i t) o ∙ first-l z (s .bits) (rotationOf s) t l,
         ap (λ (r : Rule). r .m t) (rule-is s q) ∙ ap (λ (i : ℕ). spatialM (rowsOf s) (s .n) (groupOf s) (s .bits) (rotationOf s) i t) o ∙ first-m z (s .bits) (rotationOf s) t l,
       )

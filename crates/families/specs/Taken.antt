@@ -1,7 +1,7 @@
 -- An accepted set of a family, and what the leaf of its walk promises: 1 where the walk is not had, else what the leaf of its rule does.
 -- Rests on Rules.
 use Prim.Native.Nat.{ℕ}
-use mathlib.Core.Bool.{Bool, true, false, true≢false, false≢true}
+use mathlib.Core.Bool.{Bool, true, false, _||_, true≢false, false≢true}
 use mathlib.Core.List.{List, _∷_}
 use mathlib.Core.Path.{_≡_, refl}
 use native.Mathlib.Omega.{arith}
@@ -15,8 +15,8 @@ use Rattle.laws.specs.Walk as along
 use Rattle.laws.specs.Leaves.{Fits, leaf-fits}
 use Rattle.sets.specs.declared.Set.{Set}
 use Rattle.profiles.specs.declared.Family.{Family}
-use Rattle.sets.specs.Set.{familyOf, isTurbo, isSpatial}
-use Rattle.profiles.specs.declared.Family.the-variants.{Carrier, Spatial, Turbo}
+use Rattle.sets.specs.Set.{familyOf, isTurbo, isSpatial, isQuadratic}
+use Rattle.profiles.specs.declared.Family.the-variants.{Carrier, Spatial, Turbo, Quadratic}
 use Rattle.sets.specs.Admits.{Accepted}
 use Rattle.families.specs.Rules.{ruleIn, oneWay, barred, lawful-way}
 
@@ -25,7 +25,7 @@ pub record Taken (s : Set) (family : Family) : Type 0 where
   pub accepted : Accepted s
   pub which : familyOf s ≡ family
 
--- the family, by the two questions
+-- the family, by the questions
 pub the-turbo : (s : Set) → isTurbo (familyOf s) ≡ true → familyOf s ≡ Turbo
 the-turbo s e = go (familyOf s) e
   where
@@ -33,6 +33,7 @@ the-turbo s e = go (familyOf s) e
     go Carrier e = absurd (false≢true e)
     go Spatial e = absurd (false≢true e)
     go Turbo e = refl
+    go Quadratic e = absurd (false≢true e)
 
 pub the-spatial : (s : Set) → isSpatial (familyOf s) ≡ true → familyOf s ≡ Spatial
 the-spatial s e = go (familyOf s) e
@@ -41,20 +42,32 @@ the-spatial s e = go (familyOf s) e
     go Carrier e = absurd (false≢true e)
     go Spatial e = refl
     go Turbo e = absurd (false≢true e)
+    go Quadratic e = absurd (false≢true e)
 
-pub the-carrier : (s : Set) → isTurbo (familyOf s) ≡ false → isSpatial (familyOf s) ≡ false → familyOf s ≡ Carrier
-the-carrier s e o = go (familyOf s) e o
+pub the-quadratic : (s : Set) → isQuadratic (familyOf s) ≡ true → familyOf s ≡ Quadratic
+the-quadratic s e = go (familyOf s) e
   where
-    go : (f : Family) → isTurbo f ≡ false → isSpatial f ≡ false → f ≡ Carrier
-    go Carrier e o = refl
-    go Spatial e o = absurd (true≢false o)
-    go Turbo e o = absurd (true≢false e)
+    go : (f : Family) → isQuadratic f ≡ true → f ≡ Quadratic
+    go Carrier e = absurd (false≢true e)
+    go Spatial e = absurd (false≢true e)
+    go Turbo e = absurd (false≢true e)
+    go Quadratic e = refl
 
--- the family whose M is not walked
-pub one-way : (f : Family) → isTurbo f ≡ oneWay f
+pub the-carrier : (s : Set) → isTurbo (familyOf s) ≡ false → isSpatial (familyOf s) ≡ false → isQuadratic (familyOf s) ≡ false → familyOf s ≡ Carrier
+the-carrier s e o u = go (familyOf s) e o u
+  where
+    go : (f : Family) → isTurbo f ≡ false → isSpatial f ≡ false → isQuadratic f ≡ false → f ≡ Carrier
+    go Carrier e o u = refl
+    go Spatial e o u = absurd (true≢false o)
+    go Turbo e o u = absurd (true≢false e)
+    go Quadratic e o u = absurd (true≢false u)
+
+-- the families whose M is not walked
+pub one-way : (f : Family) → (isTurbo f || isQuadratic f) ≡ oneWay f
 one-way Carrier = refl
 one-way Spatial = refl
 one-way Turbo = refl
+one-way Quadratic = refl
 
 -- and the walk of a way is had
 pub record Walkable (way : Way) (s : Set) : Type 0 where

@@ -8,6 +8,7 @@ ghost use Rattle.sets.specs.Admits.{Accepted};
 ghost use Rattle.families.specs.Taken.{WalkLeaf};
 
 mod carriers; // carriers.rt: the carrier family
+mod quadratics; // quadratics.rt: the quadratic family
 mod spatial; // spatial.rt: the spatial family
 mod turbo; // turbo.rt: the turbo family
 
@@ -22,7 +23,7 @@ pub fn is_barred(way: Way, set: Set) -> bool
 {
     match way {
         Way::Interleaver => false,
-        Way::Deinterleaver => sets::is_turbo(set),
+        Way::Deinterleaver => sets::is_turbo(set) | sets::is_quadratic(set),
     }
 }
 
@@ -37,6 +38,9 @@ pub fn walk(way: Way, set: Set, cell: usize, out: &mut [u16]) -> Leaf
     if sets::is_spatial(set) {
         return spatial::walk(way, set, cell, out);
     }
+    if sets::is_quadratic(set) {
+        return quadratics::walk(way, set, cell, out);
+    }
     carriers::walk(way, set, cell, out)
 }
 
@@ -50,6 +54,9 @@ pub fn address(way: Way, set: Set, x: usize) -> Single
     }
     if sets::is_spatial(set) {
         return spatial::address(way, set, x);
+    }
+    if sets::is_quadratic(set) {
+        return quadratics::address(way, set, x);
     }
     carriers::address(way, set, x)
 }

@@ -1,10 +1,11 @@
 -- An answer, flattened for C: numbers in a row are a parameter set, one number is the answer, and the rest goes through out-parameters. These are
 -- definitions.
 use Prim.Native.Nat.{ℕ, _*_}
-use mathlib.Core.List.{List}
+use mathlib.Core.List.{List, [], _∷_}
 use lib.ListN.{length, getD}
 use Rattle.laws.specs.declared.Way.{Way}
 use Rattle.laws.specs.Outcome.{Outcome, done, refused, partOr}
+use Rattle.sets.specs.declared.Factors.{Factors}
 use Rattle.sets.specs.declared.Set.{Set}
 use Rattle.sets.specs.declared.Refusal.{Refusal}
 use Rattle.walks.specs.declared.Walk.{Walk}
@@ -12,9 +13,19 @@ use Rattle.walks.specs.Answer.{Values, walkedOf}
 use Rattle.tables.specs.Answer.{movedOf}
 use Rattle.streams.specs.declared.Stream.{Stream}
 
--- the parameter set that C lends: profile, bits, n, stream
+-- the parameter set that C lends: profile, bits, n, stream, and the four factors
 unfoldable pub setOf : List ℕ → Set
-setOf l = record { profile = getD l 0 0; bits = getD l 1 0; n = getD l 2 0; stream = getD l 3 0 }
+setOf l = record {
+  profile = getD l 0 0;
+  bits = getD l 1 0;
+  n = getD l 2 0;
+  stream = getD l 3 0;
+  factors = record { first = getD l 4 0; second = getD l 5 0; third = getD l 6 0; fourth = getD l 7 0 };
+}
+
+-- factors as C has them
+abbrev pub factorsList : Factors → List ℕ
+factorsList f = f .first ∷ f .second ∷ f .third ∷ f .fourth ∷ []
 
 -- a walk's record: the set, and the number behind `cell`
 unfoldable pub walkOf : List ℕ → ℕ → Walk

@@ -1,5 +1,7 @@
 // An answer taken apart for C: what is lent becomes a set or a record, and what is answered becomes a number, 0 where the call is done, and
 // out-parameters, which a refused call leaves as they are.
+use lte::Given;
+use sets::Factors;
 use sets::Set;
 use sets::Verdict;
 use streams::Fed;
@@ -12,15 +14,19 @@ use walks::Walked;
 ghost use mathlib.Core.Path.{_≡_};
 ghost use Prim.Native.Nat.{ℕ};
 ghost use Rattle.sets.specs.Verdict.{sayVerdict};
+ghost use Rattle.lte.specs.Factors.{sayGiven};
 ghost use Rattle.walks.specs.Answer.{sayWalked, sayFound, Values};
 ghost use Rattle.tables.specs.Answer.{sayMoved};
 ghost use Rattle.streams.specs.Answers.{sayStarted, sayFed};
-ghost use Rattle.flat.specs.Flat.{setOf, walkOf, streamOf, numberOf, streamNumberOf, outOf, phaseOut};
+ghost use Rattle.flat.specs.Flat.{setOf, walkOf, streamOf, numberOf, streamNumberOf, outOf, phaseOut, factorsList};
 
 // How many numbers a set is.
-pub const SET: usize = 4;
+pub const SET: usize = 8;
 
-// The set that is lent: profile, bits, n, stream.
+// How many of them are its factors.
+pub const FACTORS: usize = 4;
+
+// The set that is lent: profile, bits, n, stream, and the four factors.
 pub fn set_of(set: &[u32; SET]) -> Set
     ensures { λ r. ⌜ r ≡ setOf (now (set .entry)) ⌝ }
 {
@@ -29,6 +35,12 @@ pub fn set_of(set: &[u32; SET]) -> Set
         bits: set[1],
         n: set[2],
         stream: set[3],
+        factors: Factors {
+            first: set[4],
+            second: set[5],
+            third: set[6],
+            fourth: set[7],
+        },
     }
 }
 
@@ -39,6 +51,23 @@ pub fn tested(v: Verdict) -> u32
     match v {
         Verdict::Accepted => 0,
         Verdict::Refused(x) => x.number,
+    }
+}
+
+// Takes the answer of the standard's factors apart.
+pub fn given(g: Given, factors: &mut [u32; FACTORS]) -> u32
+    ensures number { λ r. ⌜ r ≡ numberOf (sayGiven g) ⌝ }
+    ensures factors { λ r. ⌜ now (factors .exit) ≡ outOf (sayGiven g) factorsList (now (factors .entry)) ⌝ }
+{
+    match g {
+        Given::Of(f) => {
+            factors[0] = f.first;
+            factors[1] = f.second;
+            factors[2] = f.third;
+            factors[3] = f.fourth;
+            0
+        }
+        Given::Refused(x) => x.number,
     }
 }
 

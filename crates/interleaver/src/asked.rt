@@ -1,13 +1,21 @@
 // The numbers of a command. A word that is no number is told, and the command does nothing.
 use super::names;
 use lines::word;
+use lte::Given;
 use named::among;
 use numbers::Number;
+use sets::Factors;
 use sets::Set;
 
 // A parameter set, or none, which has been told.
 pub enum SetAsked {
     Given(Set),
+    Wrong,
+}
+
+// The factors of a set, or none, which has been told.
+enum FactorsAsked {
+    Given(Factors),
     Wrong,
 }
 
@@ -59,6 +67,37 @@ pub fn small_number(line: &[u8], i: usize, name: &[u8], most: u32, digits: &[u8]
     Number::Wrong
 }
 
+// LTE's own factors for a size, and none where it has no row: the test of the set says so then.
+fn standard(n: u32) -> Factors {
+    match lte::factors(n) {
+        Given::Of(f) => f,
+        Given::Refused(_) => sets::no_factors(),
+    }
+}
+
+// The factors that are named, f1 and f2 together; or, where neither is, LTE's own for the size.
+fn factors(line: &[u8], n: u32) -> FactorsAsked {
+    if !(names::has(line, b"f1") | names::has(line, b"f2")) {
+        return FactorsAsked::Given(standard(n));
+    }
+    if !(names::has(line, b"f1") & names::has(line, b"f2")) {
+        told::alone(b"f1", b"f2");
+        return FactorsAsked::Wrong;
+    }
+    let Number::Value(first) = names::number(line, b"f1", 0) else {
+        return FactorsAsked::Wrong;
+    };
+    let Number::Value(second) = names::number(line, b"f2", 0) else {
+        return FactorsAsked::Wrong;
+    };
+    FactorsAsked::Given(Factors {
+        first,
+        second,
+        third: 0,
+        fourth: 0,
+    })
+}
+
 // PROFILE, which is word 1, BITS, N and the numbers that have names.
 pub fn set(line: &[u8]) -> SetAsked {
     let w = word(line, 1);
@@ -77,11 +116,15 @@ pub fn set(line: &[u8]) -> SetAsked {
     let Number::Value(stream) = names::number(line, b"stream", 1) else {
         return SetAsked::Wrong;
     };
+    let FactorsAsked::Given(factors) = factors(line, n) else {
+        return SetAsked::Wrong;
+    };
     SetAsked::Given(Set {
         profile,
         bits,
         n,
         stream,
+        factors,
     })
 }
 

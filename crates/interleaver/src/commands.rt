@@ -36,6 +36,9 @@ pub fn named(w: &[u8]) -> Command {
     if same(w, b"picture") {
         return Command::Picture;
     }
+    if same(w, b"factors") {
+        return Command::Factors;
+    }
     if same(w, b"lines") {
         return Command::Lines;
     }
@@ -92,6 +95,7 @@ pub fn in_form(c: Command, line: &[u8]) -> bool {
     match c {
         Command::Help => has_only(line, 0) | has_only(line, 1),
         Command::Profiles | Command::Lines => has_only(line, 1),
+        Command::Factors => has_only(line, 2),
         Command::Dvb => has_only(line, 3),
         Command::Burst => has_only(line, 4),
         Command::BurstPicture => {

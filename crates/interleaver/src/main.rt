@@ -109,6 +109,13 @@ fn show_burst(c: Command, line: &[u8]) {
     }
 }
 
+// LTE's own factors for a size.
+fn show_factors(line: &[u8]) {
+    if let Number::Value(k) = asked::number(line, 1, b"K") {
+        pages::lists::factors(k);
+    }
+}
+
 // Receptions from files, added up. The line is that of the arguments before the files and of the named words.
 fn combine() {
     let mut room = [0u8; ROOM];
@@ -136,6 +143,7 @@ fn ask(c: Command, line: &[u8]) {
         Command::Help => told::help(),
         Command::Profiles => pages::admitted::table(),
         Command::Burst | Command::BurstPicture => show_burst(c, line),
+        Command::Factors => show_factors(line),
         _ => answer(c, line),
     }
 }

@@ -8,7 +8,7 @@ use named::value;
 use numbers::Number;
 
 fn is_known(word: &[u8]) -> bool {
-    same(name(word), b"stream")
+    same(name(word), b"stream") | (same(name(word), b"f1") | same(name(word), b"f2"))
 }
 
 // Whether the named words of a line all have names that are known. The first that has not is told.
@@ -42,6 +42,11 @@ fn find(line: &[u8], of: &[u8], from: usize) -> usize {
         i += 1;
     }
     line.len()
+}
+
+// Whether some word has a name.
+pub fn has(line: &[u8], of: &[u8]) -> bool {
+    find(line, of, 0) < line.len()
 }
 
 // The number of a name, or `otherwise` where no word has it. A second word of the name is told.

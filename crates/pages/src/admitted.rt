@@ -1,5 +1,5 @@
-// What each profile admits, as a table. The sizes are those that the test of a set accepts, each size up to the longest list being tried, and the streams
-// those that it goes by, so the table cannot say anything else than the library does.
+// What each profile admits, as a table. The sizes are those that the test of a set lets past 3, each size up to the longest list being tried, and the
+// streams those that it goes by, so the table cannot say anything else than the library does.
 use super::say;
 use super::say_number;
 use sets::Set;
@@ -20,10 +20,17 @@ fn verdict(profile: u32, bits: u32, n: u32) -> u32 {
         bits,
         n,
         stream: 1,
+        factors: sets::no_factors(),
     }) {
         Verdict::Refused(x) => x.number,
         Verdict::Accepted => 0,
     }
+}
+
+// Whether N is listed: 1, 2 and 3 are not said. (With no factors, 11 is said of a size of LTE, and no other number.)
+fn is_listed(profile: u32, bits: u32, n: u32) -> bool {
+    let v = verdict(profile, bits, n);
+    (v == 0) | (v > 3)
 }
 
 impl Row {
@@ -80,12 +87,19 @@ fn sizes(profile: u32, bits: u32) {
     let mut row = Row::none();
     let mut n = 1;
     while n <= 6144 {
-        if verdict(profile, bits, n) == 0 {
+        if is_listed(profile, bits, n) {
             row = row.with(n);
         }
         n += 1;
     }
     row.show();
+}
+
+// What stands behind the sizes: the factors, where the profile reads any.
+fn factors(profile: u32, bits: u32) {
+    if verdict(profile, bits, 40) == 11 {
+        say(b"; with f1 and f2 from 1 to N - 1");
+    }
     say(b"\n");
 }
 
@@ -113,6 +127,7 @@ fn front(profile: u32, bits: u32, first: bool) {
         bits,
         n: 0,
         stream: 1,
+        factors: sets::no_factors(),
     });
     streams(numbers.streams);
 }
@@ -127,6 +142,7 @@ fn name(profile: u32) {
         5 => say(b"        WCDMA turbo, 3GPP TS 25.212  "),
         6 => say(b"        IEEE 802.11n, 20 MHz         "),
         7 => say(b"        IEEE 802.11n, 40 MHz         "),
+        8 => say(b"        LTE turbo, 3GPP TS 36.212    "),
         _ => say(b"                                     "),
     }
 }
@@ -139,6 +155,7 @@ fn profile(p: u32) {
         if verdict(p, bits, 0) > 2 {
             front(p, bits, first);
             sizes(p, bits);
+            factors(p, bits);
             first = false;
         }
         bits += 1;

@@ -5,6 +5,7 @@ use super::say_number;
 use super::wide;
 use laws::Way;
 use libc::STDOUT_FILENO;
+use lte::Given;
 use sets::Refusal;
 use sets::Set;
 use sets::Verdict;
@@ -49,6 +50,17 @@ pub fn test(set: Set) {
     match sets::test(set) {
         Verdict::Refused(x) => refused(STDOUT_FILENO, x),
         Verdict::Accepted => say(b"accepted\n"),
+    }
+}
+
+// `factors`: f1 and f2 of a size of LTE.
+pub fn factors(k: u32) {
+    match lte::factors(k) {
+        Given::Refused(x) => refused(STDOUT_FILENO, x),
+        Given::Of(f) => {
+            say_number(b"", f.first as u64);
+            words::text::say_line(STDOUT_FILENO, b" ", f.second as u64);
+        }
     }
 }
 

@@ -1,21 +1,23 @@
 -- What the numbers of an entry admit is counted out: of bits that are admitted there is a row, no row is empty, and a row has each N that is admitted
 -- with its bits. Computed for every entry but the turbo one, where it is shown; no profile of carriers is named. (That what is counted
 -- is admitted as well, specs/Listed.antt of sizes shows.) Rests on Profiles and Entered.
-use mathlib.Core.Path.{_≡_, refl, ap₂, subst}
+use mathlib.Core.Path.{_≡_, refl, sym, ap₂, subst}
+use mathlib.Core.Logic.{⊎-elim}
 use mathlib.Core.Bool.{Bool, true, false, cond, _&&_, false≢true}
-use mathlib.Core.List.{List, [], _∷_, map, List·Memᴰ, List·Memᴰ·head, Memᴰ·cast}
-use Prim.Native.Nat.{ℕ, _+_, _-_, _*_, _/_, _≤_, _<_}
-use native.Mathlib.Nat.{mul-pos}
+use mathlib.Core.List.{List, [], _∷_, map, List·Memᴰ, List·Memᴰ·head, List·Memᴰ·tail, Memᴰ·cast}
+use Prim.Native.Nat.{ℕ, zero, suc, _+_, _-_, _*_, _/_, _≤_, _<_}
+use native.Mathlib.Nat.{mul-pos, eq-or-lt-of-le}
 use native.Mathlib.Omega.{arith}
 use lib.Dec.{leb, ltb, eqb}
 use borrow.Author.Tests.{leb-true, ltb-true, eqb-true}
 use Rattle.laws.specs.Run.{run, run-mem, mem-run}
+use Rattle.laws.specs.Keep.{keep}
 use Rattle.laws.specs.Members.{both, every, at-each, All, all-tested, by-member, oneOf, one-of, multiple-of}
 use Rattle.profiles.specs.declared.Form.{Form}
-use Rattle.profiles.specs.declared.Form.the-variants.{Only, Doubled, Multiple, Grouped, Range}
+use Rattle.profiles.specs.declared.Form.the-variants.{Only, Doubled, Multiple, Grouped, Range, Tiered}
 use Rattle.profiles.specs.declared.Admitted.{Admitted}
 use Rattle.profiles.specs.Entry.{Row, Entry, some, multiples}
-use Rattle.profiles.specs.Profiles.{turboSizes, turbo, carriers, spatials, profiles, entryBy}
+use Rattle.profiles.specs.Profiles.{turboSizes, lteSizes, turbo, carriers, spatials, quadratics, profiles, entryBy}
 use Rattle.profiles.specs.Profiles.{groupBy, bitsOf, bitsIn, doubles, sizeIn, sizeBy}
 use Rattle.profiles.specs.Entered.{in-profiles, every-profile}
 
@@ -35,6 +37,7 @@ formSizes Doubled u m b = doubles (u * b)
 formSizes Multiple u m b = multiples (u * b) (m / (u * b))
 formSizes Grouped u m b = multiples (u * groupBy b) (m / (u * groupBy b))
 formSizes Range u m b = run (λ j. u + j) 0 (m + 1 - u)
+formSizes Tiered u m b = keep (λ n. n) (sizeIn Tiered u m b) u (m + 1 - u)
 
 group-pos : (b : ℕ) → 0 < groupBy b
 group-pos b = go (eqb b 6) (eqb b 4)
@@ -43,6 +46,20 @@ group-pos b = go (eqb b 6) (eqb b 4)
     go true t = omega arith
     go false true = omega arith
     go false false = omega arith
+
+-- what passes a test among the numbers from c on
+in-kept : (ok : ℕ → Bool) (c n x : ℕ) → c ≤ x → x < c + n → ok x ≡ true → List·Memᴰ x (keep (λ n. n) ok c n)
+unfolding keep
+in-kept ok c zero x l h e = absurd (omega arith)
+in-kept ok c (suc n) x l h e = ⊎-elim here (λ o. later (ok c) (in-kept ok (suc c) n x o (omega arith) e)) (eq-or-lt-of-le l)
+  where
+    here : c ≡ x → List·Memᴰ x (keep (λ n. n) ok c (suc n))
+    here q = rw (let w : ok c ≡ true = subst (λ (y : ℕ). ok y ≡ true) (sym q) e in w) (List·Memᴰ·head (sym q))
+
+    later : (b : Bool) → List·Memᴰ x (keep (λ n. n) ok (suc c) n)
+        → List·Memᴰ x (cond b (c ∷ keep (λ n. n) ok (suc c) n) (keep (λ n. n) ok (suc c) n))
+    later true m = List·Memᴰ·tail m
+    later false m = m
 
 in-form : (f : Form) (u m b n : ℕ) → 0 < u → 0 < b → sizeIn f u m b n ≡ true → List·Memᴰ n (formSizes f u m b)
 in-form Only u m b n hu hb e = List·Memᴰ·head (eqb-true n (u * b) e)
@@ -54,6 +71,13 @@ in-form Range u m b n hu hb e =
     let lo = leb-true u n (q .0) in
     let hi = leb-true n m (q .1) in
     Memᴰ·cast {a = n} (omega arith) (run-mem (λ j. u + j) 0 (m + 1 - u) (n - u) (omega arith) (omega arith))
+
+in-form Tiered u m b n hu hb e =
+    let q = both (leb u n) _ e in
+    let r = both (leb n m) _ (q .1) in
+    let lo = leb-true u n (q .0) in
+    let hi = leb-true n m (r .0) in
+    in-kept (sizeIn Tiered u m b) u (m + 1 - u) n lo (omega arith) e
 
 -- lists that are the same, as a test
 sameList : List ℕ → List ℕ → Bool
@@ -108,6 +132,10 @@ spatials-counted : every counted spatials ≡ true
 unfolding counted hasRow rowCounted sameList
 spatials-counted = refl
 
+quadratics-counted : every counted quadratics ≡ true
+unfolding counted hasRow rowCounted sameList lteSizes keep
+quadratics-counted = refl
+
 -- the sizes of the turbo profile are 40 to 5,114
 pub turbo-range : {n : ℕ} → List·Memᴰ n turboSizes → (40 ≤ n) × (n ≤ 5114)
 unfolding turboSizes
@@ -122,7 +150,7 @@ turbo-counted = record {
 }
 
 all-counted : All Counted profiles
-all-counted = every-profile Counted counted counted-holds carriers-counted turbo-counted spatials-counted
+all-counted = every-profile Counted counted counted-holds carriers-counted turbo-counted spatials-counted quadratics-counted
 
 -- so of the entry of every number
 pub entry-counted : (p : ℕ) → Counted (entryBy p)

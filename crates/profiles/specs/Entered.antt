@@ -1,5 +1,5 @@
 -- What the functions of src/table.rt promise, in arithmetic alone, so that a profile needs no line of proof: at each number of the table what its
--- entry has, below the first what the first has, past the last what the last has. And that this is what the entry of the number has. Rests on
+-- entry has, below the first what the first has, past the last what profile 7 has. And that this is what the entry of the number has. Rests on
 -- Profiles.
 use mathlib.Core.Path.{_≡_, refl, sym, ap, ap₂, subst, _∙_}
 use mathlib.Core.Bool.{Bool, true, false, cond}
@@ -13,21 +13,22 @@ use Rattle.laws.specs.Outcome.{apart}
 use Rattle.laws.specs.Run.{run, run-mem}
 use Rattle.laws.specs.Members.{All, all-join, all-tested, every, at-each, by-member}
 use Rattle.profiles.specs.declared.Family.{Family}
-use Rattle.profiles.specs.declared.Family.the-variants.{Carrier, Spatial, Turbo}
+use Rattle.profiles.specs.declared.Family.the-variants.{Carrier, Spatial, Turbo, Quadratic}
 use Rattle.profiles.specs.declared.Bits.{Bits}
 use Rattle.profiles.specs.declared.Bits.the-variants.{Each, Even, One}
 use Rattle.profiles.specs.declared.Form.{Form}
-use Rattle.profiles.specs.declared.Form.the-variants.{Only, Doubled, Multiple, Grouped, Range}
+use Rattle.profiles.specs.declared.Form.the-variants.{Only, Doubled, Multiple, Grouped, Range, Tiered}
 use Rattle.profiles.specs.declared.Numbers.{Numbers}
 use Rattle.profiles.specs.declared.Admitted.{Admitted}
 use Rattle.profiles.specs.Entry.{Entry, numbers, admitted}
-use Rattle.profiles.specs.Profiles.{ofdm, turbo, carriers, turbos, spatials, profiles, lastProfile, among, ends, inTable, entryBy, familyBy, numbersBy, admittedBy}
+use Rattle.profiles.specs.Profiles.{ofdm, turbo, carriers, turbos, spatials, quadratics, profiles, lastProfile, beyond, among, ends, inTable, entryBy, familyBy, numbersBy, admittedBy}
 
 -- families, bits and forms as numbers
 abbrev pub familyTag : Family → ℕ
 familyTag Carrier = 0
 familyTag Spatial = 1
 familyTag Turbo = 2
+familyTag Quadratic = 3
 
 abbrev pub bitsTag : Bits → ℕ
 bitsTag Each = 0
@@ -40,6 +41,7 @@ formTag Doubled = 1
 formTag Multiple = 2
 formTag Grouped = 3
 formTag Range = 4
+formTag Tiered = 5
 
 -- the same of two entries, part by part
 abbrev pub SameNumbers : Numbers → Numbers → Type 0
@@ -53,7 +55,7 @@ SameAdmitted a b =
 -- as the table has it: at each number of an entry, below the first and past the last
 abbrev pub AsEntered : (Entry → Type 0) → ℕ → Type 0
 AsEntered Same p =
-    All (λ q. p ≡ q .number → Same q) profiles × ((p ≡ 0 → Same (inTable 0)) × (lastProfile < p → Same (inTable lastProfile)))
+    All (λ q. p ≡ q .number → Same q) profiles × ((p ≡ 0 → Same (inTable 0)) × (lastProfile < p → Same (inTable beyond)))
 
 abbrev pub FamilyEntered : ℕ → Family → Type 0
 FamilyEntered p f = AsEntered (λ q. familyTag f ≡ familyTag (q .family)) p
@@ -97,15 +99,17 @@ in-profiles p = ⊎-elim (λ e. Memᴰ·cast e (end (eqb p 0))) (λ m. m) (List�
     named : (k : ℕ) → List·Memᴰ (among k ofdm profiles) profiles
     named k = ⊎-elim (λ e. List·Memᴰ·head e) (λ m. m) (List·Memᴰ·cases-cons (one-of-them k ofdm profiles))
 
-    end : (b : Bool) → List·Memᴰ (cond b (among 1 ofdm profiles) (among lastProfile ofdm profiles)) profiles
+    end : (b : Bool) → List·Memᴰ (cond b (among 1 ofdm profiles) (among beyond ofdm profiles)) profiles
     end true = named 1
-    end false = named lastProfile
+    end false = named beyond
 
 -- what a test shows of those entries that it is computed of, and is shown of the turbo one, holds of every profile
 pub every-profile : (P : Entry → Type 0) (test : Entry → Bool) → ((q : Entry) → test q ≡ true → P q) → every test carriers ≡ true → P turbo
-    → every test spatials ≡ true → All P profiles
-every-profile P test show c t s =
-    all-join P carriers (turbos ++ spatials) (all-tested test show carriers c) (all-join P turbos spatials (t, tt) (all-tested test show spatials s))
+    → every test spatials ≡ true → every test quadratics ≡ true → All P profiles
+every-profile P test show c t s q =
+    all-join P carriers (turbos ++ (spatials ++ quadratics)) (all-tested test show carriers c)
+    (all-join P turbos (spatials ++ quadratics) (t, tt)
+    (all-join P spatials quadratics (all-tested test show spatials s) (all-tested test show quadratics q)))
 
 -- what holds of the entries by their numbers holds of the entry of every number
 pub entered-is : (Same : Entry → Type 0) (p : ℕ) → AsEntered Same p → Same (entryBy p)
@@ -116,7 +120,7 @@ entered-is Same p h = go (ltb 0 p) refl (ltb lastProfile p) refl
     go false e b o = let z : p ≡ 0 = omega (arith, ltb-false 0 p e) in subst (λ (x : ℕ). Same (inTable x)) (sym z) (h .1 .0 z)
     go true e true o =
         let l = ltb-true lastProfile p o in
-        let z : ends p ≡ inTable lastProfile = rw (ne-eqb p 0 (λ e. omega arith)) in
+        let z : ends p ≡ inTable beyond = rw (ne-eqb p 0 (λ e. omega arith)) in
         subst Same (sym z ∙ past p (ends p) profiles (omega arith)) (h .1 .1 l)
     go true e false o =
         by-member (λ q. p ≡ q .number → Same q) profiles (h .0) (in-profiles p)
@@ -127,12 +131,13 @@ pub families-apart : (f g : Family) → familyTag f ≡ familyTag g → f ≡ g
 families-apart = apart familyTag read same
   where
     read : ℕ → Family
-    read t = cond (eqb t 0) Carrier (cond (eqb t 1) Spatial Turbo)
+    read t = cond (eqb t 0) Carrier (cond (eqb t 1) Spatial (cond (eqb t 2) Turbo Quadratic))
 
     same : (f : Family) → read (familyTag f) ≡ f
     same Carrier = refl
     same Spatial = refl
     same Turbo = refl
+    same Quadratic = refl
 
 bits-apart : (f g : Bits) → bitsTag f ≡ bitsTag g → f ≡ g
 bits-apart = apart bitsTag read same
@@ -149,7 +154,7 @@ forms-apart : (f g : Form) → formTag f ≡ formTag g → f ≡ g
 forms-apart = apart formTag read same
   where
     read : ℕ → Form
-    read t = cond (eqb t 0) Only (cond (eqb t 1) Doubled (cond (eqb t 2) Multiple (cond (eqb t 3) Grouped Range)))
+    read t = cond (eqb t 0) Only (cond (eqb t 1) Doubled (cond (eqb t 2) Multiple (cond (eqb t 3) Grouped (cond (eqb t 4) Range Tiered))))
 
     same : (f : Form) → read (formTag f) ≡ f
     same Only = refl
@@ -157,6 +162,7 @@ forms-apart = apart formTag read same
     same Multiple = refl
     same Grouped = refl
     same Range = refl
+    same Tiered = refl
 
 pub family-entered : (p : ℕ) (f : Family) → FamilyEntered p f → f ≡ familyBy p
 family-entered p f h = families-apart f _ (entered-is (λ q. familyTag f ≡ familyTag (q .family)) p h)

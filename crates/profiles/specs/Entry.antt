@@ -1,9 +1,9 @@
 -- An entry of a table of profiles: what a profile is in numbers, and what it admits, counted out in rows, one for each of its bits, with the N that go
--- with them. Over any table; specs/Profiles.antt has the one of document 01 and of request 4.
+-- with them. Over any table; specs/Profiles.antt has the one of document 01 and of requests 4 and 6.
 use mathlib.Core.Path.{_≡_, refl}
 use mathlib.Core.Bool.{Bool, true, false, false≢true}
 use mathlib.Core.List.{List, [], _∷_, List·Memᴰ, List·Memᴰ·head}
-use Prim.Native.Nat.{ℕ, _*_}
+use Prim.Native.Nat.{ℕ, _+_, _*_}
 use Rattle.laws.specs.Run.{run}
 use Rattle.profiles.specs.declared.Family.{Family}
 use Rattle.profiles.specs.declared.Numbers.{Numbers}
@@ -36,6 +36,10 @@ admitted b f u m = record { bits = b; form = f; unit = u; limit = m }
 -- u, 2u, 3u, .., m of them
 abbrev pub multiples : ℕ → ℕ → List ℕ
 multiples u m = run (λ j. u * j) 1 m
+
+-- a, a + u, a + 2u, .., m of them
+abbrev pub onwards : ℕ → ℕ → ℕ → List ℕ
+onwards a u m = run (λ j. a + u * j) 0 m
 
 -- some number stands in a list, as a test
 abbrev pub some : List ℕ → Bool

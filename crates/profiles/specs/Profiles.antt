@@ -1,22 +1,22 @@
 -- The profiles: what each is in numbers, and what it admits, counted out with no remainder taken anywhere: document 01's table "Profiles and what
--- each admits", and change request 4's profiles 6 and 7. Then the tests of bits and N that the numbers make; specs/Counted.antt, with
+-- each admits", change request 4's profiles 6 and 7, and change request 6's profile 8. Then the tests of bits and N that the numbers make; specs/Counted.antt, with
 -- specs/Listed.antt of sizes, shows that they and the count agree. What is proved of a further profile of carriers, of one stream or of four, needs its lines here and in src/table.rt, and no
 -- others, as far as N is at most 1,536 and its unit below 1,000. These are definitions.
 use mathlib.Core.Bool.{Bool, cond, _&&_}
 use mathlib.Core.List.{List, [], _∷_, _++_}
-use Prim.Native.Nat.{ℕ, _+_, _*_}
+use Prim.Native.Nat.{ℕ, _+_, _*_, _%_}
 use lib.Dec.{leb, eqb}
 use Rattle.laws.specs.Run.{run}
 use Rattle.laws.specs.Members.{oneOf, multiple}
 use Rattle.profiles.specs.declared.Family.{Family}
-use Rattle.profiles.specs.declared.Family.the-variants.{Carrier, Spatial, Turbo}
+use Rattle.profiles.specs.declared.Family.the-variants.{Carrier, Spatial, Turbo, Quadratic}
 use Rattle.profiles.specs.declared.Bits.{Bits}
 use Rattle.profiles.specs.declared.Bits.the-variants.{Each, Even, One}
 use Rattle.profiles.specs.declared.Form.{Form}
-use Rattle.profiles.specs.declared.Form.the-variants.{Only, Doubled, Multiple, Grouped, Range}
+use Rattle.profiles.specs.declared.Form.the-variants.{Only, Doubled, Multiple, Grouped, Range, Tiered}
 use Rattle.profiles.specs.declared.Numbers.{Numbers}
 use Rattle.profiles.specs.declared.Admitted.{Admitted}
-use Rattle.profiles.specs.Entry.{row, Entry, numbers, admitted, multiples}
+use Rattle.profiles.specs.Entry.{row, Entry, numbers, admitted, multiples, onwards}
 
 -- 1, IEEE 802.16 OFDM: d 12; for w in 1, 2, 4, 8, 16: bits 1: 12w; 2: 24w; 4: 48w; 6: 72w, which is 12 times bits times w
 abbrev pub ofdm : Entry
@@ -100,6 +100,19 @@ ht40 = record {
   rows = row 1 (108 ∷ []) ∷ row 2 (216 ∷ []) ∷ row 4 (432 ∷ []) ∷ row 6 (648 ∷ []) ∷ [];
 }
 
+-- 8, LTE turbo, 3GPP TS 36.212 5.1.3.2.3: bits 1; K 40 to 512 by 8, to 1,024 by 16, to 2,048 by 32, to 6,144 by 64
+unfoldable pub lteSizes : List ℕ
+lteSizes = onwards 40 8 60 ++ (onwards 528 16 32 ++ (onwards 1056 32 32 ++ onwards 2112 64 64))
+
+abbrev pub lte : Entry
+lte = record {
+  number = 8;
+  family = Quadratic;
+  numbers = numbers 0 0 1;
+  admitted = admitted One Tiered 40 6144;
+  rows = row 1 lteSizes ∷ [];
+}
+
 -- the profiles, by family
 abbrev pub carriers : List Entry
 carriers = ofdm ∷ ofdma ∷ wlan ∷ bench ∷ []
@@ -110,11 +123,18 @@ turbos = turbo ∷ []
 abbrev pub spatials : List Entry
 spatials = ht20 ∷ ht40 ∷ []
 
+abbrev pub quadratics : List Entry
+quadratics = lte ∷ []
+
 abbrev pub profiles : List Entry
-profiles = carriers ++ (turbos ++ spatials)
+profiles = carriers ++ (turbos ++ (spatials ++ quadratics))
 
 abbrev pub lastProfile : ℕ
-lastProfile = 7
+lastProfile = 8
+
+-- the profile whose entry stands for the numbers past the last: one whose M is walked, so that 1 is said of such a number for itself alone
+abbrev pub beyond : ℕ
+beyond = 7
 
 -- those of several streams
 abbrev pub manyStreams : List ℕ
@@ -124,13 +144,13 @@ manyStreams = 6 ∷ 7 ∷ []
 abbrev pub numberListed : ℕ → Bool
 numberListed p = leb 1 p && leb p lastProfile
 
--- the entry of a number. (Of 0 it is that of 1, and past the last number that of the last: no address comes of either, and no refusal but 1)
+-- the entry of a number. (Of 0 it is that of 1, and past the last number that of 7: no address comes of either, and no refusal but 1)
 abbrev pub among : ℕ → Entry → List Entry → Entry
 among p z [] = z
 among p z (q ∷ qs) = cond (eqb p (q .number)) q (among p z qs)
 
 abbrev pub ends : ℕ → Entry
-ends p = cond (eqb p 0) (among 1 ofdm profiles) (among lastProfile ofdm profiles)
+ends p = cond (eqb p 0) (among 1 ofdm profiles) (among beyond ofdm profiles)
 
 abbrev pub inTable : ℕ → Entry
 inTable p = among p (ends p) profiles
@@ -152,6 +172,10 @@ admittedBy p = entryBy p .admitted
 abbrev pub groupBy : ℕ → ℕ
 groupBy b = cond (eqb b 6) 3 (cond (eqb b 4) 2 1)
 
+-- the step from a size of LTE to the next
+abbrev pub stepBy : ℕ → ℕ
+stepBy n = cond (leb n 512) 8 (cond (leb n 1024) 16 (cond (leb n 2048) 32 64))
+
 -- the bits are among those that are admitted
 abbrev pub bitsOf : Bits → List ℕ
 bitsOf Each = 1 ∷ 2 ∷ 4 ∷ 6 ∷ []
@@ -171,6 +195,7 @@ sizeIn Doubled u m b n = oneOf n (doubles (u * b))
 sizeIn Multiple u m b n = multiple (u * b) m n
 sizeIn Grouped u m b n = multiple (u * groupBy b) m n
 sizeIn Range u m b n = leb u n && leb n m
+sizeIn Tiered u m b n = leb u n && (leb n m && eqb (n % stepBy n) 0)
 
 abbrev pub sizeBy : Admitted → ℕ → ℕ → Bool
 sizeBy a b n = sizeIn (a .form) (a .unit) (a .limit) b n

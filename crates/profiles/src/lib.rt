@@ -1,7 +1,7 @@
-// The profiles: which family of formulas each has, which numbers, and what it admits; and s of the bits. table.rt has them question by question.
+// The profiles: which family of formulas each has, which numbers, and what it admits; s of the bits, and the step of LTE's sizes. table.rt has them question by question.
 ghost use mathlib.Core.Path.{_≡_};
 ghost use Prim.Native.Nat.{_<_};
-ghost use Rattle.profiles.specs.Profiles.{familyBy, numbersBy, admittedBy, groupBy, numberListed};
+ghost use Rattle.profiles.specs.Profiles.{familyBy, numbersBy, admittedBy, groupBy, stepBy, numberListed};
 
 mod table; // table.rt: what each profile is
 
@@ -10,6 +10,7 @@ pub enum Family {
     Carrier,
     Spatial,
     Turbo,
+    Quadratic,
 }
 
 // The numbers of a profile's formulas: d, the rows of a carrier interleaver; r, N_ROT of IEEE 802.11n; and how many streams there are. One that the
@@ -27,6 +28,7 @@ pub enum Form {
     Multiple, // the multiples of unit times bits, up to the limit
     Grouped, // the multiples of unit times s, up to the limit
     Range, // unit to the limit
+    Tiered, // unit to the limit by 8, past 512 by 16, past 1,024 by 32, past 2,048 by 64
 }
 
 // The bits per carrier of a profile.
@@ -84,4 +86,21 @@ pub fn group_by(bits: u32) -> u32
         return 2;
     }
     1
+}
+
+// The step from a size to the next, where the form is tiered. (That it is not 0 is promised too.)
+pub fn step_by(n: u32) -> u32
+    ensures { λ r. ⌜ r ≡ stepBy n ⌝ }
+    ensures { λ r. ⌜ 0 < r ⌝ }
+{
+    if n <= 512 {
+        return 8;
+    }
+    if n <= 1024 {
+        return 16;
+    }
+    if n <= 2048 {
+        return 32;
+    }
+    64
 }

@@ -7,11 +7,12 @@ use super::Form;
 use super::Numbers;
 ghost use Rattle.profiles.specs.Entered.{FamilyEntered, NumbersEntered, AdmittedEntered};
 
-// The profiles are numbered from 1 to this. A number below 1 is answered as 1 is, and one above this as this is (`entryBy` in
+// The profiles are numbered from 1 to this. A number below 1 is answered as 1 is, and one above this as 7 is (`entryBy` in
 // specs/Profiles.antt).
-pub(super) const LAST: u32 = 7;
+pub(super) const LAST: u32 = 8;
 
-// Which family: 1 to 4 are carrier interleavers, 5 (3GPP TS 25.212) is the turbo interleaver, 6 and 7 (IEEE 802.11n) are of spatial streams.
+// Which family: 1 to 4 are carrier interleavers, 5 (3GPP TS 25.212) is the turbo interleaver, 6 and 7 (IEEE 802.11n) are of spatial streams, 8 (3GPP
+// TS 36.212) is the quadratic interleaver.
 pub(super) fn family(profile: u32) -> Family
     ensures { λ r. ⌜ FamilyEntered profile r ⌝ }
 {
@@ -20,6 +21,9 @@ pub(super) fn family(profile: u32) -> Family
     }
     if profile < 6 {
         return Family::Turbo;
+    }
+    if profile == 8 {
+        return Family::Quadratic;
     }
     Family::Spatial
 }
@@ -54,6 +58,13 @@ pub(super) fn numbers(profile: u32) -> Numbers
             d: 13,
             r: 11,
             streams: 4,
+        };
+    }
+    if profile == 8 {
+        return Numbers {
+            d: 0,
+            r: 0,
+            streams: 1,
         };
     }
     Numbers {
@@ -113,6 +124,14 @@ pub(super) fn admitted(profile: u32) -> Admitted
             form: Form::Only,
             unit: 52,
             limit: 0,
+        };
+    }
+    if profile == 8 {
+        return Admitted {
+            bits: Bits::One,
+            form: Form::Tiered,
+            unit: 40,
+            limit: 6144,
         };
     }
     Admitted {

@@ -1,7 +1,7 @@
-// Arithmetic that several interleavers need to set themselves up or to step: the greatest common divisor, and a sum modulo k. (laws has the
-// mathematics: specs/Euclid.antt.)
+// Arithmetic that several interleavers need to set themselves up or to step: the greatest common divisor, the lesser of two numbers, and a sum
+// modulo k. (laws has the mathematics: specs/Euclid.antt.)
 ghost use mathlib.Core.Path.{_≡_};
-ghost use Prim.Native.Nat.{_+_, _%_, _<_};
+ghost use Prim.Native.Nat.{min, _+_, _%_, _<_};
 ghost use Rattle.laws.specs.Euclid.{gcd};
 
 // The greatest common divisor, by Euclid: the second number falls.
@@ -9,6 +9,12 @@ pub fn gcd_of(a: u32, b: u32) -> u32
     ensures { λ r. ⌜ r ≡ gcd a b ⌝ }
 {
     if b == 0 { a } else { gcd_of(b, a % b) }
+}
+
+pub fn least(a: usize, b: usize) -> usize
+    ensures { λ r. ⌜ r ≡ min a b ⌝ }
+{
+    if a <= b { a } else { b }
 }
 
 // Of two numbers below this, a difference that wraps round below 0 is at least this.

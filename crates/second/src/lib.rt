@@ -1,7 +1,8 @@
-// The second computation: whole lists from document 01's formulas, for profile 5 and for the third step of 6 and 7 from the standard's, with a
-// division at each address. It knows nothing of the walk, and promises nothing: a program holds the proved lists against it.
+// The second computation: whole lists from document 01's formulas, for profile 5, for the third step of 6 and 7 and for profile 8 from the standard's, with
+// a division at each address. It knows nothing of the walk, and promises nothing: a program holds the proved lists against it.
 pub mod num; // num.rt: arithmetic that never fails
 mod primes; // primes.rt: primes, the least primitive root, the next q
+pub mod squares; // squares.rt: the quadratic list of profile 8, and its positions tried
 mod turbo; // turbo.rt: the rectangle of profile 5
 
 use crate::num::minus;
@@ -14,7 +15,7 @@ use laws::Way;
 use sets::Set;
 
 // A list stands at 0 of the lent slice, and from ENDS on, for each address, the cell that follows it.
-pub const ENDS: usize = 6000;
+pub const ENDS: usize = 6144;
 
 // A list as it was computed: its set, how many addresses and cells it has, and how many of the cells are padding.
 pub struct Whole {
@@ -156,6 +157,9 @@ pub fn unexchanged(set: Set, list: &mut [u16]) -> Whole {
 pub fn list_of(way: Way, set: Set, list: &mut [u16]) -> Whole {
     if set.profile == 5 {
         return turbo_list(set, true, list);
+    }
+    if set.profile == 8 {
+        return squares::list_of(set, list);
     }
     carrier_list(way, set, turn(set), list)
 }

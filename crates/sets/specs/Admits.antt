@@ -22,7 +22,7 @@ use Rattle.sizes.specs.Tests.{listedSizes, profileListed, bitsListed, sizeListe
 use Rattle.sizes.specs.Listed.{EachPasses, all-pass}
 use Rattle.profiles.specs.Entered.{in-profiles, own-number}
 use Rattle.sets.specs.Stream.{streamListed, streamLines}
-use Rattle.sets.specs.Beside.{besideLines, besideSentences, beside-told}
+use Rattle.sets.specs.Beside.{factorsIn, factorsApart, besideLines, besideSentences, beside-told}
 use Rattle.sets.specs.Verdict.{sizeLines, setLines, refusal, verdictOf}
 
 -- the test of a set accepts it
@@ -122,6 +122,10 @@ accepted-listed s e = clear-listed (sizeOf s) (accepted-clear s e .of-size)
 -- and its stream passes
 pub accepted-stream : (s : Set) → verdictOf s ≡ done tt → streamListed s ≡ true
 accepted-stream s e = not-false _ (accepted-clear s e .of-stream .0)
+
+-- and its factors
+pub accepted-factors : (s : Set) → verdictOf s ≡ done tt → (factorsIn s ≡ true) × (factorsApart s ≡ true)
+accepted-factors s e = let c = accepted-clear s e .beside in (not-false _ (c .0), not-false _ (c .1 .0))
 
 -- a set is accepted exactly when its size is listed, its stream passes, and no sentence of what it must have beside them holds
 pub record Passed (s : Set) : Type 0 where

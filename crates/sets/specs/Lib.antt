@@ -1,9 +1,10 @@
 pub mod Set
 pub mod Stream
+pub mod Numbered
+pub mod Fit
 pub mod Beside
 pub mod Verdict
 pub mod Admits
 pub mod Listed
-pub mod Numbered
 pub mod Carried
 pub mod Refusals

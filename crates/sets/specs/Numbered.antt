@@ -5,7 +5,7 @@ use mathlib.Core.Logic.{_⊎_, inl, inr}
 use mathlib.Core.Path.{_≡_, ap}
 use native.Mathlib.Omega.{arith}
 use Rattle.profiles.specs.declared.Family.{Family}
-use Rattle.profiles.specs.declared.Family.the-variants.{Carrier, Spatial, Turbo}
+use Rattle.profiles.specs.declared.Family.the-variants.{Carrier, Spatial, Turbo, Quadratic}
 use Rattle.profiles.specs.Entered.{AsEntered, familyTag, families-apart, entered-is}
 use Rattle.sets.specs.declared.Set.{Set}
 use Rattle.sets.specs.Set.{familyOf, numbersOf, rowsOf, rotationOf}
@@ -20,7 +20,7 @@ module _ (s : Set) (If : Type 0) where
   unfolding numbersOf
   numbers-where d r h i = entered-is (λ q. If → (q .numbers .d ≡ d) × (q .numbers .r ≡ r)) (s .profile) h i
 
--- profiles 1 to 4 are of the carrier family, 5 is the turbo interleaver, 6 and 7 are of spatial streams
+-- profiles 1 to 4 are of the carrier family, 5 is the turbo interleaver, 6 and 7 are of spatial streams, 8 is the quadratic interleaver
 pub carrier-profile : (s : Set) → s .profile < 5 → familyOf s ≡ Carrier
 carrier-profile s h = family-where s (s .profile < 5) Carrier (omega arith) h
 
@@ -31,10 +31,18 @@ pub spatial-profile : (s : Set) → (s .profile ≡ 6) ⊎ (s .profile ≡ 7) �
 spatial-profile s (inl e) = family-where s (s .profile ≡ 6) Spatial (omega arith) e
 spatial-profile s (inr e) = family-where s (s .profile ≡ 7) Spatial (omega arith) e
 
--- and no other profile is the turbo family
+pub eight-quadratic : (s : Set) → s .profile ≡ 8 → familyOf s ≡ Quadratic
+eight-quadratic s e = family-where s (s .profile ≡ 8) Quadratic (omega arith) e
+
+-- and no other profile is of the turbo family or of the quadratic
 pub turbo-five : (s : Set) → familyOf s ≡ Turbo → s .profile ≡ 5
 unfolding familyOf
 turbo-five s e = entered-is (λ q. familyTag (q .family) ≡ familyTag Turbo → s .profile ≡ 5) (s .profile) (omega arith) (ap familyTag e)
+
+pub quadratic-eight : (s : Set) → familyOf s ≡ Quadratic → s .profile ≡ 8
+unfolding familyOf
+quadratic-eight s e =
+    entered-is (λ q. familyTag (q .family) ≡ familyTag Quadratic → s .profile ≡ 8) (s .profile) (omega arith) (ap familyTag e)
 
 -- d and r at 20 and at 40 MHz
 pub ht20-numbers : (s : Set) → s .profile ≡ 6 → (rowsOf s ≡ 13) × (rotationOf s ≡ 11)

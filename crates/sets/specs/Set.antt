@@ -1,12 +1,14 @@
--- The size of a set, its family, the numbers of its formulas, and s. Rests on crates profiles and sizes. These are definitions.
+-- The size of a set, its family, the numbers of its formulas, s, and its factors. Rests on crates profiles and sizes. These are definitions.
 use Prim.Native.Nat.{ℕ}
-use mathlib.Core.Bool.{Bool, true, false}
+use mathlib.Core.Bool.{Bool, true, false, _&&_}
+use lib.Dec.{ltb}
 use Rattle.sizes.specs.declared.Size.{Size}
 use Rattle.profiles.specs.declared.Family.{Family}
-use Rattle.profiles.specs.declared.Family.the-variants.{Carrier, Spatial, Turbo}
+use Rattle.profiles.specs.declared.Family.the-variants.{Carrier, Spatial, Turbo, Quadratic}
 use Rattle.profiles.specs.declared.Numbers.{Numbers}
 use Rattle.sizes.specs.Size.{size}
 use Rattle.profiles.specs.Profiles.{familyBy, numbersBy, groupBy}
+use Rattle.sets.specs.declared.Factors.{Factors}
 use Rattle.sets.specs.declared.Set.{Set}
 
 abbrev pub sizeOf : Set → Size
@@ -15,16 +17,24 @@ sizeOf s = size (s .profile) (s .bits) (s .n)
 unfoldable pub familyOf : Set → Family
 familyOf s = familyBy (s .profile)
 
--- it is the turbo interleaver's; it is that of spatial streams
+-- it is the turbo interleaver's; it is that of spatial streams; it is the quadratic interleaver's
 abbrev pub isTurbo : Family → Bool
 isTurbo Carrier = false
 isTurbo Spatial = false
 isTurbo Turbo = true
+isTurbo Quadratic = false
 
 abbrev pub isSpatial : Family → Bool
 isSpatial Carrier = false
 isSpatial Spatial = true
 isSpatial Turbo = false
+isSpatial Quadratic = false
+
+abbrev pub isQuadratic : Family → Bool
+isQuadratic Carrier = false
+isQuadratic Spatial = false
+isQuadratic Turbo = false
+isQuadratic Quadratic = true
 
 -- d, r, and how many streams there are
 unfoldable pub numbersOf : Set → Numbers
@@ -39,3 +49,18 @@ rotationOf s = numbersOf s .r
 -- s
 unfoldable pub groupOf : Set → ℕ
 groupOf s = groupBy (s .bits)
+
+-- f1 and f2 of the quadratic interleaver
+abbrev pub f1 : Set → ℕ
+f1 s = s .factors .first
+
+abbrev pub f2 : Set → ℕ
+f2 s = s .factors .second
+
+-- the factors of a profile that reads none
+abbrev pub noFactors : Factors
+noFactors = record { first = 0; second = 0; third = 0; fourth = 0 }
+
+-- f is from 1 to k - 1
+abbrev pub within : ℕ → ℕ → Bool
+within k f = ltb 0 f && ltb f k

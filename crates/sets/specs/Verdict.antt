@@ -1,5 +1,5 @@
--- The test of a set: refusals 1, 2 and 3 of document 01, which are of its size, 16, which is of its stream (specs/Stream.antt), and then what it
--- must have beside them (specs/Beside.antt).
+-- The test of a set: refusals 1, 2 and 3 of document 01, which are of its size, 16, which is of its stream (specs/Stream.antt), and then 11 and 10,
+-- which are of its factors (specs/Beside.antt).
 use Prim.Native.Nat.{ℕ}
 use mathlib.Core.Bool.{not}
 use mathlib.Core.List.{List, [], _∷_, _++_}
@@ -15,7 +15,7 @@ use Rattle.sizes.specs.Tests.{profileListed, bitsListed, sizeListed}
 use Rattle.sets.specs.Stream.{streamLines}
 use Rattle.sets.specs.Beside.{besideLines}
 
--- 1: the profile isn't 1 to 7. 2: the bits aren't listed for the profile. 3: N isn't listed for that profile and those bits
+-- 1: the profile isn't 1 to 8. 2: the bits aren't listed for the profile. 3: N isn't listed for that profile and those bits
 abbrev pub sizeLines : Size → List Line
 sizeLines z =
     line 1 (not (profileListed z))

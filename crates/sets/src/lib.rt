@@ -1,19 +1,30 @@
 // A parameter set, the test of one, and what a refusal carries.
 ghost use mathlib.Core.Path.{_≡_};
 ghost use Prim.Native.Nat.{_<_};
-ghost use Rattle.sets.specs.Set.{familyOf, isTurbo, isSpatial, numbersOf, groupOf};
+ghost use Rattle.sets.specs.Set.{familyOf, isTurbo, isSpatial, isQuadratic, numbersOf, groupOf, noFactors, within};
 ghost use Rattle.sets.specs.Stream.{streamListed};
+ghost use Rattle.sets.specs.Beside.{factorsIn, factorsApart, Testable};
 ghost use Rattle.sets.specs.Verdict.{refusal, sayVerdict, verdictOf};
 use profiles::Family;
 use profiles::Numbers;
 use sizes::Size;
 
-// A profile, bits per carrier, the block's size N, and the spatial stream, which is 1 for a profile of one stream. Any numbers may be given.
+// The numbers that a set has beside its size and stream. Profile 8 reads the first two, which are its f1 and f2; no other profile reads any.
+pub struct Factors {
+    pub first: u32,
+    pub second: u32,
+    pub third: u32,
+    pub fourth: u32,
+}
+
+// A profile, bits per carrier, the block's size N, the spatial stream, which is 1 for a profile of one stream, and the factors. Any numbers may
+// be given.
 pub struct Set {
     pub profile: u32,
     pub bits: u32,
     pub n: u32,
     pub stream: u32,
+    pub factors: Factors,
 }
 
 // What a refused call gives back: the number of document 01.
@@ -27,6 +38,18 @@ pub enum Verdict {
     Refused(Refusal),
 }
 
+// The factors of a profile that reads none.
+pub fn no_factors() -> Factors
+    ensures { λ r. ⌜ r ≡ noFactors ⌝ }
+{
+    Factors {
+        first: 0,
+        second: 0,
+        third: 0,
+        fourth: 0,
+    }
+}
+
 // The family of a set's profile.
 fn family_of(set: Set) -> Family
     ensures { λ r. ⌜ r ≡ familyOf set ⌝ }
@@ -34,8 +57,8 @@ fn family_of(set: Set) -> Family
     profiles::family_by(set.profile)
 }
 
-// Whether the family is the turbo interleaver's, and whether it is that of spatial streams. (Two questions of two answers each, since the compiler
-// makes one comparison of each, and some ten instructions of a match on three families.)
+// Whether the family is the turbo interleaver's, that of spatial streams, or the quadratic interleaver's. (Questions of two answers each, since the
+// compiler makes one comparison of each, and some ten instructions of a match on the families.)
 pub fn is_turbo(set: Set) -> bool
     ensures { λ r. ⌜ r ≡ isTurbo (familyOf set) ⌝ }
 {
@@ -44,6 +67,7 @@ pub fn is_turbo(set: Set) -> bool
         Family::Carrier => false,
         Family::Spatial => false,
         Family::Turbo => true,
+        Family::Quadratic => false,
     }
 }
 
@@ -55,6 +79,19 @@ pub fn is_spatial(set: Set) -> bool
         Family::Carrier => false,
         Family::Spatial => true,
         Family::Turbo => false,
+        Family::Quadratic => false,
+    }
+}
+
+pub fn is_quadratic(set: Set) -> bool
+    ensures { λ r. ⌜ r ≡ isQuadratic (familyOf set) ⌝ }
+{
+    let family = family_of(set);
+    match family {
+        Family::Carrier => false,
+        Family::Spatial => false,
+        Family::Turbo => false,
+        Family::Quadratic => true,
     }
 }
 
@@ -91,7 +128,35 @@ fn stream_listed(set: Set) -> bool
     (1 <= set.stream) & (set.stream <= numbers.streams)
 }
 
-// The test of a parameter set: 1, 2, 3, 16, in that order, and nothing more. (`verdicts-apart` in specs/Verdict.antt: what is said leaves one
+// Whether f is from 1 to k - 1.
+fn is_within(k: u32, f: u32) -> bool
+    ensures { λ r. ⌜ r ≡ within k f ⌝ }
+{
+    (0 < f) & (f < k)
+}
+
+// The factors that the family reads are from 1 to N - 1.
+fn factors_in(set: Set) -> bool
+    ensures { λ r. ⌜ r ≡ factorsIn set ⌝ }
+{
+    if !is_quadratic(set) {
+        return true;
+    }
+    is_within(set.n, set.factors.first) & is_within(set.n, set.factors.second)
+}
+
+// No two positions share an address. The factors have been tested.
+fn factors_apart(set: Set) -> bool
+    requires { ⌜ Testable set ⌝ }
+    ensures { λ r. ⌜ r ≡ factorsApart set ⌝ }
+{
+    if !is_quadratic(set) {
+        return true;
+    }
+    quadratic::all_apart(set.n, set.factors.first, set.factors.second)
+}
+
+// The test of a parameter set: 1, 2, 3, 16, 11, 10, in that order, and nothing more. (`verdicts-apart` in specs/Verdict.antt: what is said leaves one
 // answer.)
 pub fn test(set: Set) -> Verdict
     ensures { λ r. ⌜ sayVerdict r ≡ verdictOf set ⌝ }
@@ -112,6 +177,12 @@ pub fn test(set: Set) -> Verdict
     }
     if !stream_listed(set) {
         return Verdict::Refused(refusal_of(set, 16));
+    }
+    if !factors_in(set) {
+        return Verdict::Refused(refusal_of(set, 11));
+    }
+    if !factors_apart(set) {
+        return Verdict::Refused(refusal_of(set, 10));
     }
     Verdict::Accepted
 }

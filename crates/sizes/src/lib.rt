@@ -3,6 +3,7 @@ use profiles::Bits;
 use profiles::Form;
 use profiles::admitted_by;
 use profiles::group_by;
+use profiles::step_by;
 ghost use mathlib.Core.Path.{_≡_};
 ghost use Prim.Native.Nat.{_<_};
 ghost use Rattle.laws.specs.Members.{multiple};
@@ -61,5 +62,6 @@ pub fn size_listed(size: Size) -> bool
         Form::Multiple => multiple_of(u, a.limit, n),
         Form::Grouped => multiple_of(a.unit * group_by(b), a.limit, n),
         Form::Range => (a.unit <= n) & (n <= a.limit),
+        Form::Tiered => (a.unit <= n) & ((n <= a.limit) & (n % step_by(n) == 0)),
     }
 }

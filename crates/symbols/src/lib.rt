@@ -51,7 +51,7 @@ fn move_by(way: Way, set: Set, width: u32, table: &mut [u16], src: &[u8], dst: &
     }
 }
 
-// Moves a block of N symbols of `width` bytes, either way. Refusals 1, 2, 3, 16, 8, 5, 6.
+// Moves a block of N symbols of `width` bytes, either way. Refusals 1, 2, 3, 16, 11, 10, 8, 5, 6.
 pub fn move_symbols(way: Way, set: Set, width: u32, src: &[u8], dst: &mut [u8]) -> Moved
     ensures answer { λ r. ⌜ sayMoved r ≡ movedOf set (set .n * width) (length (now (src .entry))) (length (now (dst .entry))) ⌝ }
     ensures output { λ r. ⌜ now (dst .exit) ≡ movedSymbols way set width (now (src .entry)) (now (dst .entry)) ⌝ }

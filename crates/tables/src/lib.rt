@@ -26,7 +26,7 @@ pub fn size_of(set: Set) -> usize
     set.n as usize
 }
 
-// Fills a table with L and judges the lengths of a block of `total` symbols or bytes: the walk tells 1, 2, 3, 16 and 8; then 5 and 6.
+// Fills a table with L and judges the lengths of a block of `total` symbols or bytes: the walk tells 1, 2, 3, 16, 11, 10 and 8; then 5 and 6.
 pub fn fill(set: Set, total: usize, input: usize, output: usize, table: &mut [u16]) -> Moved
     requires { ⌜ Roomy set (now table) ⌝ }
     ensures { λ r. ⌜ Filled set total input output (now (table .exit)) r ⌝ }

@@ -13,7 +13,7 @@ use Rattle.laws.specs.Members.{All}
 use Rattle.laws.specs.Once.{inside}
 use Rattle.laws.specs.Position.{position}
 use Rattle.sets.specs.declared.Set.{Set}
-use Rattle.sets.specs.Set.{familyOf, numbersOf, groupOf}
+use Rattle.sets.specs.Set.{familyOf, numbersOf, groupOf, noFactors}
 use Rattle.profiles.specs.Profiles.{entryBy}
 use Rattle.carrier.specs.Formula.{firstStep, secondStep, carrierM, backStep, lastStep, carrierL}
 use Rattle.carrier.specs.Third.{turn, thirdStep, spatialM, thirdBack, spatialL}
@@ -68,25 +68,25 @@ row q s x e h = record { question = q; set = s; argument = x; expected = e; hold
 
 -- a set of profile 1 to 7; b: bits, n: N, k: K, i: the stream
 abbrev pub ofdm : ℕ → ℕ → Set
-ofdm b n = record { profile = 1; bits = b; n = n; stream = 1 }
+ofdm b n = record { profile = 1; bits = b; n = n; stream = 1; factors = noFactors }
 
 abbrev pub ofdma : ℕ → ℕ → Set
-ofdma b n = record { profile = 2; bits = b; n = n; stream = 1 }
+ofdma b n = record { profile = 2; bits = b; n = n; stream = 1; factors = noFactors }
 
 abbrev pub wlan : ℕ → ℕ → Set
-wlan b n = record { profile = 3; bits = b; n = n; stream = 1 }
+wlan b n = record { profile = 3; bits = b; n = n; stream = 1; factors = noFactors }
 
 abbrev pub bench : ℕ → ℕ → Set
-bench b n = record { profile = 4; bits = b; n = n; stream = 1 }
+bench b n = record { profile = 4; bits = b; n = n; stream = 1; factors = noFactors }
 
 abbrev pub turbo : ℕ → Set
-turbo k = record { profile = 5; bits = 1; n = k; stream = 1 }
+turbo k = record { profile = 5; bits = 1; n = k; stream = 1; factors = noFactors }
 
 abbrev pub ht20 : ℕ → ℕ → ℕ → Set
-ht20 b n i = record { profile = 6; bits = b; n = n; stream = i }
+ht20 b n i = record { profile = 6; bits = b; n = n; stream = i; factors = noFactors }
 
 abbrev pub ht40 : ℕ → ℕ → ℕ → Set
-ht40 b n i = record { profile = 7; bits = b; n = n; stream = i }
+ht40 b n i = record { profile = 7; bits = b; n = n; stream = i; factors = noFactors }
 
 -- the padding by cells = K + padding, for a K with too many cells to count them one by one here
 pub counted : (k : ℕ) → k ≤ 5114 → answer padded (turbo k) 0 ≡ (cells k - k) ∷ []

@@ -13,6 +13,7 @@ pub enum Command {
     To,
     Walk,
     Picture,
+    Factors,
     Lines,
     Interleave,
     Deinterleave,
@@ -37,9 +38,18 @@ pub fn expected(what: &[u8]) {
 
 // What names there are, where a word has another.
 pub fn unknown(word: &[u8]) {
-    say(b"interleaver: expected stream=I as a named word, not ");
+    say(b"interleaver: expected stream=I, f1=F or f2=G as a named word, not ");
     say(word);
     say(b"\n");
+}
+
+// That of two names one stands alone.
+pub fn alone(name: &[u8], other: &[u8]) {
+    say(b"interleaver: expected ");
+    say(name);
+    say(b"= and ");
+    say(other);
+    say(b"= together\n");
 }
 
 // That a name stands twice.
@@ -53,29 +63,30 @@ pub fn twice(name: &[u8]) {
 pub fn usage(c: Command) {
     match c {
         Command::Help => expected(b"help"),
-        Command::Test => expected(b"test PROFILE BITS N [stream=I]"),
+        Command::Test => expected(b"test PROFILE BITS N [NAMES]"),
         Command::Profiles => expected(b"profiles"),
-        Command::List => expected(b"list PROFILE BITS N [stream=I]"),
-        Command::Back => expected(b"back PROFILE BITS N [stream=I]"),
-        Command::At => expected(b"at PROFILE BITS N T [stream=I]"),
-        Command::To => expected(b"to PROFILE BITS N K [stream=I]"),
-        Command::Walk => expected(b"walk PROFILE BITS N CELL ROOM [stream=I]"),
-        Command::Picture => expected(
-            b"picture PROFILE BITS N [stream=I] or picture dvb burst [AT LENGTH]",
-        ),
+        Command::List => expected(b"list PROFILE BITS N [NAMES]"),
+        Command::Back => expected(b"back PROFILE BITS N [NAMES]"),
+        Command::At => expected(b"at PROFILE BITS N T [NAMES]"),
+        Command::To => expected(b"to PROFILE BITS N K [NAMES]"),
+        Command::Walk => expected(b"walk PROFILE BITS N CELL ROOM [NAMES]"),
+        Command::Picture => {
+            expected(b"picture PROFILE BITS N [NAMES] or picture dvb burst [AT LENGTH]")
+        }
+        Command::Factors => expected(b"factors K"),
         Command::Lines => expected(b"lines"),
-        Command::Interleave => expected(b"interleave PROFILE BITS N [WIDTH] [stream=I]"),
-        Command::Deinterleave => expected(b"deinterleave PROFILE BITS N [WIDTH] [stream=I]"),
+        Command::Interleave => expected(b"interleave PROFILE BITS N [WIDTH] [NAMES]"),
+        Command::Deinterleave => expected(b"deinterleave PROFILE BITS N [WIDTH] [NAMES]"),
         Command::Dvb => expected(
             b"dvb interleave FILL, dvb deinterleave FILL or dvb burst AT LENGTH",
         ),
         Command::Burst => expected(b"dvb burst AT LENGTH"),
         Command::BurstPicture => expected(b"picture dvb burst [AT LENGTH]"),
         Command::Combine => expected(
-            b"combine PROFILE BITS N FILE ... [stream=I], each an argument of its own",
+            b"combine PROFILE BITS N FILE ... [NAMES], each an argument of its own",
         ),
         Command::Unknown => expected(
-            b"one of help, test, profiles, list, back, at, to, walk, picture, lines, interleave, deinterleave, dvb, combine",
+            b"one of help, test, profiles, list, back, at, to, walk, picture, factors, lines, interleave, deinterleave, dvb, combine",
         ),
     }
 }
@@ -83,6 +94,6 @@ pub fn usage(c: Command) {
 pub fn help() {
     words::text::write(
         STDOUT_FILENO,
-        b"interleaver: block interleavers of IEEE 802.11a, IEEE 802.11n, IEEE 802.16 and 3GPP WCDMA, and the DVB byte stream.\n\nQuestions, answered on standard output; a refusal is a line such as `refused 3`:\n  test PROFILE BITS N [stream=I]             accepted, or the refusal\n  profiles                                   what each profile admits, as a table\n  list PROFILE BITS N [stream=I]             L: for each output position its input index, one a line\n  back PROFILE BITS N [stream=I]             M: for each input index its output position (not of profile 5)\n  at PROFILE BITS N T [stream=I]             L(T): the input index that output T holds\n  to PROFILE BITS N K [stream=I]             M(K): the output position of input K\n  walk PROFILE BITS N CELL ROOM [stream=I]   at most ROOM entries of L from a cell on, then a line\n                                             `written W next C cells E`; go on with CELL = C\n  picture PROFILE BITS N [stream=I]          the permutation as an SVG\n  dvb burst AT LENGTH                        LENGTH bytes (1 to 1,024) in a row in the DVB channel, from byte AT on: for\n                                             each `BYTE PLACE`, where it comes out of the deinterleaver, both counted\n                                             from its start; then `least distance D` between any two (of one byte, `none`)\n  picture dvb burst [AT LENGTH]              the same as an SVG (left out, AT is 0 and LENGTH 12)\n  lines                                      the same, a question a line, from standard input\n                                             (each line shorter than 512 bytes)\n\nFilters, standard input to standard output:\n  interleave PROFILE BITS N [WIDTH] [stream=I]     block after block of N symbols of WIDTH bytes (1 to 8; left out, 1);\n  deinterleave PROFILE BITS N [WIDTH] [stream=I]   an f32 is 4, moved bit for bit. A short last block: `refused 5`\n                                                   on standard error, and nothing of it is written\n  dvb interleave FILL                              a byte stream, in a machine that starts with FILL (0 to 255);\n  dvb deinterleave FILL                            out as long as in: through both, it comes back\n                                                   2,244 bytes late, and the last 2,244 stay inside\n\nReceptions, from files; a refusal is an answer, as to a question:\n  combine PROFILE BITS N FILE ... [stream=I]   receptions of one block added up. A FILE is one: N f32 values in\n                                               output order, 4 bytes each, little end first, a blank as\n                                               not-a-number. Then for each input index `INDEX SUM COUNT`, the f32\n                                               SUM written exactly, or `INDEX blank`. A path has at most 1,024 bytes\n\nA named word may stand anywhere behind PROFILE: `stream=I` is the spatial stream of IEEE 802.11n, 1 to 4 (left out, 1).\nA word is a named one where it holds a `=` and no `/` before that: for a file a=b, write ./a=b.\n\nRefusals: 1 profile, 2 bits, 3 N, 16 stream not listed; 4 position N or more; 5 input of another length; 9 cell past\nthe end; 13 a value or a sum not finite; 15 a count past 65,535. Exit status: 0, also where a question is answered\nby a refusal; 1 where anything was said on standard error; 2 where the program cannot be built.\n\nExamples:\n  ./interleaver at 3 4 192 13                                   prints 1: output 13 holds input 1\n  ./interleaver to 6 2 104 0 stream=2                           prints 60: where IEEE 802.11n's second stream has input 0\n  ./interleaver picture 3 6 288 > wlan.svg                      a picture of IEEE 802.11a's 64-QAM block\n  ./interleaver dvb burst 0 12                                  a burst of 12 bytes comes out 203 or more places apart\n  ./interleaver interleave 3 6 288 < samples/bulletin.txt | ./interleaver deinterleave 3 6 288\n  ./interleaver combine 3 6 288 samples/reception?.f32          three receptions of one block\n",
+        b"interleaver: block interleavers of IEEE 802.11a, IEEE 802.11n, IEEE 802.16, 3GPP WCDMA and LTE, and the DVB byte stream.\n\nQuestions, answered on standard output; a refusal is a line such as `refused 3`:\n  test PROFILE BITS N [NAMES]                accepted, or the refusal\n  profiles                                   what each profile admits, as a table\n  list PROFILE BITS N [NAMES]                L: for each output position its input index, one a line\n  back PROFILE BITS N [NAMES]                M: for each input index its output position (not of profiles 5, 8)\n  at PROFILE BITS N T [NAMES]                L(T): the input index that output T holds\n  to PROFILE BITS N K [NAMES]                M(K): the output position of input K\n  walk PROFILE BITS N CELL ROOM [NAMES]      at most ROOM entries of L from a cell on, then a line\n                                             `written W next C cells E`; go on with CELL = C\n  picture PROFILE BITS N [NAMES]             the permutation as an SVG\n  factors K                                  `F G`: LTE's own f1 and f2 for K, 3GPP TS 36.212 table 5.1.3-3\n  dvb burst AT LENGTH                        LENGTH bytes (1 to 1,024) in a row in the DVB channel, from byte AT on: for\n                                             each `BYTE PLACE`, where it comes out of the deinterleaver, both counted\n                                             from its start; then `least distance D` between any two (of one byte, `none`)\n  picture dvb burst [AT LENGTH]              the same as an SVG (left out, AT is 0 and LENGTH 12)\n  lines                                      the same, a question a line, from standard input\n                                             (each line shorter than 512 bytes)\n\nFilters, standard input to standard output:\n  interleave PROFILE BITS N [WIDTH] [NAMES]        block after block of N symbols of WIDTH bytes (1 to 8; left out, 1);\n  deinterleave PROFILE BITS N [WIDTH] [NAMES]      an f32 is 4, moved bit for bit. A short last block: `refused 5`\n                                                   on standard error, and nothing of it is written\n  dvb interleave FILL                              a byte stream, in a machine that starts with FILL (0 to 255);\n  dvb deinterleave FILL                            out as long as in: through both, it comes back\n                                                   2,244 bytes late, and the last 2,244 stay inside\n\nReceptions, from files; a refusal is an answer, as to a question:\n  combine PROFILE BITS N FILE ... [NAMES]      receptions of one block added up. A FILE is one: N f32 values in\n                                               output order, 4 bytes each, little end first, a blank as\n                                               not-a-number. Then for each input index `INDEX SUM COUNT`, the f32\n                                               SUM written exactly, or `INDEX blank`. A path has at most 1,024 bytes\n\nNAMES are named words, and may stand anywhere behind PROFILE: `stream=I` is the spatial stream of IEEE 802.11n, 1 to 4\n(left out, 1); `f1=F f2=G`, both or neither, are the factors of profile 8 (left out, LTE's own for N).\nA word is a named one where it holds a `=` and no `/` before that: for a file a=b, write ./a=b.\n\nRefusals: 1 profile, 2 bits, 3 N, 16 stream not listed; 11 f1 or f2 not from 1 to N - 1; 10 two positions would share an\naddress; 4 position N or more; 5 input of another length; 9 cell past the end; 13 a value or a sum not finite; 15 a\ncount past 65,535. Exit status: 0, also where a question is answered by a refusal; 1 where anything was said on standard\nerror; 2 where the program cannot be built.\n\nExamples:\n  ./interleaver at 3 4 192 13                                   prints 1: output 13 holds input 1\n  ./interleaver to 6 2 104 0 stream=2                           prints 60: where IEEE 802.11n's second stream has input 0\n  ./interleaver at 8 1 40 2 f1=3 f2=10                          prints 6: LTE's output 2 holds input 6\n  ./interleaver picture 3 6 288 > wlan.svg                      a picture of IEEE 802.11a's 64-QAM block\n  ./interleaver dvb burst 0 12                                  a burst of 12 bytes comes out 203 or more places apart\n  ./interleaver interleave 3 6 288 < samples/bulletin.txt | ./interleaver deinterleave 3 6 288\n  ./interleaver combine 3 6 288 samples/reception?.f32          three receptions of one block\n",
     );
 }

@@ -20,7 +20,7 @@ use Rattle.sets.specs.Admits.{Accepted}
 use Rattle.families.specs.Taken.{wayLines, WalkLeaf}
 use Rattle.walks.specs.Answer.{walkLines, oneLines, Values, values, walkNext, walkSlice, walkValues, walkedOf, sliceOf, foundOf}
 
--- lines 1 to 3 are clear, so the lines behind them decide
+-- the lines of the set are clear, so the lines behind them decide
 pub accepted-front : (s : Set) (more : List Line) → Accepted s → first (setLines s ++ more) ≡ first more
 unfolding verdictOf
 accepted-front s more e = done-front (refusal s) tt tt (setLines s) more e

@@ -2,7 +2,7 @@
 -- number 8 is never said; a walk is done from every cell up to the total, an address is found at every position below N.
 use Prim.Native.Nat.{ℕ, _≤_, _<_}
 use mathlib.Core.Bool.{false}
-use mathlib.Core.Logic.{_≢_}
+use mathlib.Core.Logic.{inl, inr}
 use mathlib.Core.Path.{_≡_, refl, _∙_}
 use borrow.Author.Tests.{le-ltb, lt-leb}
 use Rattle.laws.specs.declared.Way.{Way}
@@ -10,9 +10,9 @@ use Rattle.laws.specs.declared.Way.the-variants.{Interleaver, Deinterleaver}
 use Rattle.laws.specs.Outcome.{done, clear, first}
 use Rattle.sets.specs.declared.Set.{Set}
 use Rattle.profiles.specs.declared.Family.{Family}
-use Rattle.profiles.specs.declared.Family.the-variants.{Carrier, Spatial, Turbo}
+use Rattle.profiles.specs.declared.Family.the-variants.{Carrier, Spatial, Turbo, Quadratic}
 use Rattle.sets.specs.Set.{familyOf}
-use Rattle.sets.specs.Numbered.{turbo-five}
+use Rattle.sets.specs.Numbered.{turbo-five, quadratic-eight}
 use Rattle.wcdma_setup.specs.Found.{search-ends}
 use Rattle.walks.specs.declared.Walk.{Walk}
 use Rattle.families.specs.Rules.{familyRule, ruleOf, ruleIn, oneWay, barred}
@@ -20,6 +20,7 @@ use Rattle.walks.specs.Answer.{planLines, walkLines, oneLines, walkValue
 use Rattle.sets.specs.Admits.{Accepted}
 use Rattle.families.specs.Taken.{Walkable}
 use Rattle.walks.specs.Passed.{accepted-front}
+use Rattle.walks.specs.Refusals.{NotWalked}
 
 -- no set's set-up gives up
 pub never-fails : (s : Set) → ruleOf s .fails ≡ false
@@ -30,6 +31,7 @@ never-fails s = go (familyOf s)
     go Carrier = refl
     go Spatial = refl
     go Turbo = search-ends (s .n)
+    go Quadratic = refl
 
 never-fails-in : (way : Way) (s : Set) → ruleIn way s .fails ≡ false
 never-fails-in Interleaver s = never-fails s
@@ -40,18 +42,19 @@ pub plan-clear : (s : Set) → Accepted s → first (planLines s) ≡ clear
 unfolding planLines
 plan-clear s e = accepted-front s _ e ∙ rw (never-fails s)
 
--- a walk is had but for M of profile 5
-pub walkable-listed : (way : Way) (s : Set) → Accepted s → (way ≡ Deinterleaver → s .profile ≢ 5) → Walkable way s
+-- a walk is had but for M of profiles 5 and 8
+pub walkable-listed : (way : Way) (s : Set) → Accepted s → (way ≡ Deinterleaver → NotWalked s → ⊥) → Walkable way s
 walkable-listed way s e n = record { accepted = e; had = go way (λ q. had (familyOf s) refl (n q)) }
   where
     go : (way : Way) → (way ≡ Deinterleaver → oneWay (familyOf s) ≡ false) → barred way (familyOf s) ≡ false
     go Interleaver h = refl
     go Deinterleaver h = h refl
 
-    had : (f : Family) → familyOf s ≡ f → s .profile ≢ 5 → oneWay f ≡ false
+    had : (f : Family) → familyOf s ≡ f → (NotWalked s → ⊥) → oneWay f ≡ false
     had Carrier q n = refl
     had Spatial q n = refl
-    had Turbo q n = absurd (n (turbo-five s q))
+    had Turbo q n = absurd (n (inl (turbo-five s q)))
+    had Quadratic q n = absurd (n (inr (quadratic-eight s q)))
 
 pub walk-served : (way : Way) (w : Walk) (room : ℕ) → Walkable way (w .set) → w .cell ≤ ruleIn way (w .set) .total
     → walkedOf way w room ≡ done (walkValues way w room)

@@ -24,7 +24,7 @@ use Rattle.sets.specs.Admits.{Accepted}
 abbrev pub begin : Set → Walk
 begin s = record { set = s; cell = 0 }
 
--- the walk for L from there is refused by 1, 2, 3, 16 and 8 alone
+-- the walk for L from there is refused by 1, 2, 3, 16, 11, 10 and 8 alone
 pub begin-lines : (s : Set) → first (walkLines Interleaver (begin s)) ≡ first (planLines s)
 unfolding walkLines planLines
 begin-lines s =

@@ -7,7 +7,7 @@ use Rattle.laws.specs.Keep.{wrote}
 use Rattle.laws.specs.declared.Way.{Way}
 use Rattle.laws.specs.declared.Way.the-variants.{Interleaver}
 use Rattle.laws.specs.Walk as along
-use Rattle.sets.specs.Set.{familyOf, numbersOf, groupOf}
+use Rattle.sets.specs.Set.{familyOf, numbersOf, groupOf, noFactors}
 use Rattle.profiles.specs.Profiles.{entryBy}
 use Rattle.carrier.specs.Formula.{backStep, lastStep, carrierL}
 use Rattle.walks.specs.declared.Walk.{Walk}
@@ -20,7 +20,7 @@ clearedSlice way w old = walkList way w (length old) ++ replicate (length old - 
 
 -- IEEE 802.11a, bits 1, N 48, at the last cell but one
 abbrev pub lastTwo : Walk
-lastTwo = record { set = record { profile = 3; bits = 1; n = 48; stream = 1 }; cell = 46 }
+lastTwo = record { set = record { profile = 3; bits = 1; n = 48; stream = 1; factors = noFactors }; cell = 46 }
 
 -- a slice of four 7s: two addresses, and then the 7s that stood there
 pub rest-kept : walkSlice Interleaver lastTwo (7 ∷ 7 ∷ 7 ∷ 7 ∷ []) ≡ 31 ∷ 47 ∷ 7 ∷ 7 ∷ []

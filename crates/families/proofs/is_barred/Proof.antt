@@ -1,5 +1,6 @@
 -- `families::is_barred` says whether a walk is not had.
-use mathlib.Core.Path.{sym, ap, _∙_}
+use mathlib.Core.Bool.{_||_}
+use mathlib.Core.Path.{sym, ap, ap₂, _∙_}
 use Rattle.laws.specs.declared.Way.{Way}
 use Rattle.sets.specs.Set.{familyOf}
 use Rattle.families.specs.Rules.{barred}
@@ -10,9 +11,10 @@ use Rattle.families.proofs.is_barred.Tie as tie
 
 returns-2 : tie.Need-returns-2
 returns-2 c =
-    let f = familyOf (c .before .before .before .args .set) in
-    c .is-turbo .ensures ∙ one-way f ∙ sym (ap (λ (w : Way). barred w f) (c .before .enum-told2 .given .1))
+    let t = c .before in
+    let f = familyOf (t .before .before .before .args .set) in
+    ap₂ _||_ (t .is-turbo .ensures) (c .is-quadratic .ensures) ∙ one-way f ∙ sym (ap (λ (w : Way). barred w f) (t .before .enum-told2 .given .1))
 
 pub is-barred-spec : {M : Type 1} → statement M
 is-barred-spec =
-    tie.close (tie.spec (λ c. search needs) (λ c. search needs) (λ c κs. search needs) (λ c. search needs) returns-2)
+    tie.close (tie.spec (λ c. search needs) (λ c. search needs) (λ c κs. search needs) (λ c κs. search needs) (λ c. search needs) returns-2)

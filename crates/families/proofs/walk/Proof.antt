@@ -1,6 +1,6 @@
 -- `families::walk` asks the family of the set.
 use mathlib.Core.Path.{sym, _∙_}
-use Rattle.families.specs.Taken.{the-turbo, the-spatial, the-carrier}
+use Rattle.families.specs.Taken.{the-turbo, the-spatial, the-quadratic, the-carrier}
 use borrow.Author.Needs.{needs}
 use Rattle.families.proofs.walk.Statement.{statement}
 use Rattle.families.proofs.walk.Tie as tie
@@ -20,14 +20,22 @@ walk-requires-2 c κs =
 walk-requires-3 : tie.Need-walk-requires-3
 walk-requires-3 c κs =
     let i = c .before in
-    let t = i .before .before .before in
+    let t = i .before .before .before .before .before in
+    record { accepted = t .before .before .pre; which = the-quadratic _ (sym (i .before .is-quadratic .ensures) ∙ i .if3 .taken) }
+
+walk-requires-4 : tie.Need-walk-requires-4
+walk-requires-4 c κs =
+    let i = c .before in
+    let s = i .before .before in
+    let t = s .before .before .before in
     record {
       accepted = t .before .before .pre;
-      which = the-carrier _ (sym (t .is-turbo .ensures) ∙ i .before .before .if1 .left) (sym (i .before .is-spatial .ensures) ∙ i .if2 .left);
+      which = the-carrier _ (sym (t .is-turbo .ensures) ∙ s .before .before .if1 .left) (sym (s .before .is-spatial .ensures) ∙ s .if2 .left)
+          (sym (i .before .is-quadratic .ensures) ∙ i .if3 .left);
     }
 
 pub walk-spec : {M : Type 1} → statement M
 walk-spec =
     tie.close
     (tie.spec (λ c κs. search needs) walk-requires (λ c. search needs) (λ c. search needs) (λ c κs. search needs) walk-requires-2 (λ c. search needs) (λ c. search needs)
-    walk-requires-3 (λ c. search needs) (λ c. search needs))
+    (λ c κs. search needs) walk-requires-3 (λ c. search needs) (λ c. search needs) walk-requires-4 (λ c. search needs) (λ c. search needs))

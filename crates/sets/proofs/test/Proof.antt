@@ -4,8 +4,14 @@ use mathlib.Core.Path.{_≡_, _∙_, sym, ap}
 use borrow.Author.Needs.{needs}
 use borrow.Author.Tests.{not-true, not-false}
 use Rattle.laws.specs.Outcome.{refused}
-use Rattle.sets.specs.Verdict.{verdictOf, setLines}
+use Rattle.sizes.specs.Tests.{profileListed, bitsListed, sizeListed}
 use Rattle.sizes.specs.Listed.{bits-small}
+use Rattle.sets.specs.declared.Set.{Set}
+use Rattle.sets.specs.Set.{sizeOf}
+use Rattle.sets.specs.Stream.{streamListed}
+use Rattle.sets.specs.Beside.{testable}
+use Rattle.sets.specs.Verdict.{verdictOf, setLines}
+use Rattle.sets.specs.Admits.{passing-listed}
 use Rattle.sets.proofs.test.Statement.{statement}
 use Rattle.sets.proofs.test.Tie as tie
 
@@ -75,15 +81,74 @@ returns-4 c =
       fails (c .before .before .stream-listed .ensures) (c .before .if4 .taken),
     )
 
-returns-5 : tie.Need-returns-5
-unfolding verdictOf setLines
-returns-5 c =
-    let e = c .before .before in
-    simp (
+-- past the first four tests
+abbrev asked : tie.Else4 → Set
+asked e = e .before .before .before .before .before .before .before .before .args .set
+
+listed : (e : tie.Else4)
+    → (profileListed (sizeOf (asked e)) ≡ true) × (bitsListed (sizeOf (asked e)) ≡ true) × (sizeListed (sizeOf (asked e)) ≡ true)
+listed c =
+    let e = c .before .before in (
       passes (e .before .before .before .before .before .profile-listed .ensures) (e .before .before .before .before .if1 .left),
       passes (e .before .before .before .bits-listed .ensures) (e .before .before .if2 .left),
       passes (e .before .size-listed .ensures) (e .if3 .left),
-      passes (c .before .stream-listed .ensures) (c .if4 .left),
+    )
+
+streamed : (e : tie.Else4) → streamListed (asked e) ≡ true
+streamed c = passes (c .before .stream-listed .ensures) (c .if4 .left)
+
+factors-in-requires : tie.Need-factors-in-requires
+factors-in-requires c κs = search needs
+
+refusal-of-requires-5 : tie.Need-refusal-of-requires-5
+refusal-of-requires-5 c κs = search needs
+
+returns-5 : tie.Need-returns-5
+unfolding verdictOf setLines
+returns-5 c =
+    let e = c .before .before .before in
+    let l = listed e in
+    ap refused (c .refusal-of5 .ensures)
+    ∙ simp (l .0, l .1, l .2, streamed e, fails (c .before .before .factors-in .ensures) (c .before .if5 .taken))
+
+factors-apart-requires : tie.Need-factors-apart-requires
+factors-apart-requires c κs =
+    let e = c .before .before in
+    let l = listed e in
+    testable (asked e) (passing-listed (sizeOf (asked e)) (l .0) (l .1) (l .2)) (passes (c .before .factors-in .ensures) (c .if5 .left))
+
+refusal-of-requires-6 : tie.Need-refusal-of-requires-6
+refusal-of-requires-6 c κs = search needs
+
+returns-6 : tie.Need-returns-6
+unfolding verdictOf setLines
+returns-6 c =
+    let i = c .before .before .before in
+    let e = i .before .before in
+    let l = listed e in
+    ap refused (c .refusal-of6 .ensures)
+    ∙ simp (
+      l .0,
+      l .1,
+      l .2,
+      streamed e,
+      passes (i .before .factors-in .ensures) (i .if5 .left),
+      fails (c .before .before .factors-apart .ensures) (c .before .if6 .taken),
+    )
+
+returns-7 : tie.Need-returns-7
+unfolding verdictOf setLines
+returns-7 c =
+    let i = c .before .before in
+    let e = i .before .before in
+    let l = listed e in
+    simp (
+      l .0,
+      l .1,
+      l .2,
+      streamed e,
+      passes (i .before .factors-in .ensures) (i .if5 .left),
+      passes (c .before .factors-apart .ensures) (c .if6 .left),
     )
 
 pub test-spec : {M : Type 1} → statement M
@@ -102,4 +167,10 @@ test-spec =
     stream-listed-requires
     refusal-of-requires-4
     returns-4
-    returns-5)
+    factors-in-requires
+    refusal-of-requires-5
+    returns-5
+    factors-apart-requires
+    refusal-of-requires-6
+    returns-6
+    returns-7)

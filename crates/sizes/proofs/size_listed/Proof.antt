@@ -1,6 +1,7 @@
 -- `sizes::size_listed` is the test of the size, form by form.
-use Prim.Native.Nat.{ℕ, _*_, _<_}
-use mathlib.Core.Bool.{or-false}
+use Prim.Native.Nat.{ℕ, _*_, _%_, _<_}
+use mathlib.Core.Bool.{or-false, _&&_}
+use lib.Dec.{leb, eqb}
 use mathlib.Core.Path.{sym, ap, _∙_}
 use native.Mathlib.Omega.{arith}
 use borrow.Author.Needs.{needs}
@@ -65,9 +66,18 @@ returns-4 c =
 returns-5 : tie.Need-returns-5
 returns-5 c = sym (size-by _ (c .before .before .before .before .before .admitted-by .ensures) (c .before .before .enum-told5 .given .1))
 
+returns-6 : tie.Need-returns-6
+returns-6 c =
+    let m = c .before .before .before in
+    let a = m .before .before .before in
+    let n = a .before .args .size .n in
+    let x = a .admitted-by .result in
+    ap (λ (u : ℕ). leb (x .unit) n && (leb n (x .limit) && eqb (n % u) 0)) (c .step-by .ensures .0)
+    ∙ sym (size-by _ (a .admitted-by .ensures) (m .enum-told6 .given .1))
+
 pub size-listed-spec : {M : Type 1} → statement M
 size-listed-spec =
     tie.close
     (tie.spec (λ c κs. search needs) mul-u (λ c. search needs) (λ c. search needs) mul-result mul-result-2 mul-result-3 mul-result-4
     (λ c. search needs) multiple-of-requires (λ c. search needs) (λ c κs. search needs) mul-multiple-of multiple-of-requires-2 (λ c. search needs)
-    returns returns-2 returns-3 returns-4 returns-5)
+    (λ c. search needs) (λ c κs. search needs) (λ c. search needs) returns returns-2 returns-3 returns-4 returns-5 returns-6)

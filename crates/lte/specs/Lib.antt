@@ -1,0 +1,4 @@
+pub mod Standard
+pub mod Table
+pub mod Factors
+pub mod Accepted

@@ -1,0 +1,114 @@
+// The quadratic interleaver's addresses: the walk for L from any cell, and one address either way. A position's address and its difference to the next
+// are worked out once a call, by products and remainders; from there on each step is two sums, of which each takes K off at most once. The
+// public functions are leaf functions: the crate above them tests a set first, and shows what they require.
+use laws::Leaf;
+use laws::Single;
+use residues::least;
+use residues::plus;
+ghost use mathlib.Core.Path.{_≡_};
+ghost use Prim.Native.Nat.{ℕ, _+_, _*_, _%_, _<_};
+ghost use Rattle.laws.specs.Lanes.{Ran};
+ghost use Rattle.laws.specs.Walk.{LeafOf, SingleOf};
+ghost use Rattle.quadratic.specs.Formula.{quadraticL, quadraticM, quadraticRule};
+ghost use Rattle.quadratic_walk.specs.Spot.{Whole, Block, SpotAt, SpotIn};
+
+// Where a walk stands: the address, and how much more the next one is, modulo K.
+struct Spot {
+    value: usize,
+    delta: usize,
+}
+
+impl Spot {
+    // At a position: by division, once a call.
+    fn new(k: usize, f1: usize, f2: usize, t: usize) -> Self
+        requires { ⌜ Block k f1 f2 t ⌝ }
+        ensures { λ r. ⌜ SpotAt k f1 f2 t r ⌝ }
+    {
+        Spot {
+            value: (f1 * t + f2 * (t * t)) % k,
+            delta: (f1 + f2 + 2 * f2 * t) % k,
+        }
+    }
+
+    // One position on: the address by the difference, and the difference by 2·f2.
+    fn next(self, k: usize, twice: usize) -> Self
+        requires { ⌜ SpotIn k twice self ⌝ }
+        ensures { λ r. ⌜ ((f1 f2 t : ℕ) → twice ≡ 2 * f2 % k → SpotAt k f1 f2 t self → SpotAt k f1 f2 (t + 1) r) ⌝ }
+    {
+        let value = plus(k, self.value, self.delta);
+        let delta = plus(k, self.delta, twice);
+        Spot { value, delta }
+    }
+}
+
+// Writes L from a cell on, as far as there is room and cells; gives back how many.
+fn write(k: usize, f1: usize, f2: usize, cell: usize, out: &mut [u16]) -> usize
+    requires { ⌜ Block k f1 f2 cell ⌝ }
+    ensures { λ r. ⌜ Ran (quadraticL k f1 f2) k cell (now (out .entry)) (now (out .exit)) r ⌝ }
+{
+    let count = least(out.len(), k - cell);
+    let twice = 2 * f2 % k;
+    let mut at = Spot::new(k, f1, f2, cell);
+    let mut i = 0;
+    while i < count {
+        out[i] = at.value as u16;
+        at = at.next(k, twice);
+        i += 1;
+    }
+    count
+}
+
+// The position whose address is a, by walking there.
+fn place_of(k: usize, f1: usize, f2: usize, a: usize) -> usize
+    requires { ⌜ Whole k f1 f2 ⌝ }
+    ensures { λ r. ⌜ r ≡ quadraticM k f1 f2 a ⌝ }
+{
+    let twice = 2 * f2 % k;
+    let mut at = Spot::new(k, f1, f2, 0);
+    let mut t = 0;
+    while t < k {
+        if at.value == a {
+            return t;
+        }
+        at = at.next(k, twice);
+        t += 1;
+    }
+    t
+}
+
+// The walk for L from a cell: 9 where it is past the total.
+pub fn walk(k: usize, f1: usize, f2: usize, cell: usize, out: &mut [u16]) -> Leaf
+    requires { ⌜ Whole k f1 f2 ⌝ }
+    ensures { λ r. ⌜ LeafOf k (quadraticRule k f1 f2) cell (now (out .entry)) (now (out .exit)) r ⌝ }
+{
+    if cell > k {
+        return Leaf::Stopped(9);
+    }
+    let count = write(k, f1, f2, cell, out);
+    Leaf::Went {
+        written: count,
+        cells: count,
+    }
+}
+
+// L(t): 4 where t is K or more.
+pub fn one_l(k: usize, f1: usize, f2: usize, t: usize) -> Single
+    requires { ⌜ Whole k f1 f2 ⌝ }
+    ensures { λ r. ⌜ SingleOf k (quadraticRule k f1 f2) (quadraticL k f1 f2) t r ⌝ }
+{
+    if t >= k {
+        return Single::Barred(4);
+    }
+    Single::At(Spot::new(k, f1, f2, t).value)
+}
+
+// M(a): 4 where a is K or more.
+pub fn one_m(k: usize, f1: usize, f2: usize, a: usize) -> Single
+    requires { ⌜ Whole k f1 f2 ⌝ }
+    ensures { λ r. ⌜ SingleOf k (quadraticRule k f1 f2) (quadraticM k f1 f2) a r ⌝ }
+{
+    if a >= k {
+        return Single::Barred(4);
+    }
+    Single::At(place_of(k, f1, f2, a))
+}

@@ -1,0 +1,24 @@
+-- `sets::is_quadratic` is the question of the family.
+use mathlib.Core.Path.{sym, ap, _∙_}
+use borrow.Author.Needs.{needs}
+use Rattle.sets.specs.Set.{isQuadratic}
+use Rattle.sets.proofs.is_quadratic.Statement.{statement}
+use Rattle.sets.proofs.is_quadratic.Tie as tie
+
+returns : tie.Need-returns
+returns c = sym (ap isQuadratic (sym (c .before .before .family-of .ensures) ∙ c .enum-told .given .1))
+
+returns-2 : tie.Need-returns-2
+returns-2 c = sym (ap isQuadratic (sym (c .before .before .family-of .ensures) ∙ c .enum-told2 .given .1))
+
+returns-3 : tie.Need-returns-3
+returns-3 c = sym (ap isQuadratic (sym (c .before .before .family-of .ensures) ∙ c .enum-told3 .given .1))
+
+returns-4 : tie.Need-returns-4
+returns-4 c = sym (ap isQuadratic (sym (c .before .before .family-of .ensures) ∙ c .enum-told4 .given .1))
+
+pub is-quadratic-spec : {M : Type 1} → statement M
+is-quadratic-spec =
+    tie.close
+    (tie.spec (λ c κs. search needs) (λ c. search needs) (λ c. search needs) (λ c. search needs) (λ c. search needs) returns returns-2 returns-3
+    returns-4)
