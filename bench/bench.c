@@ -1,6 +1,6 @@
 /* The harness: the rows of the table, a row by one side, and its times; check.c compares the sides. Every side is called through a pointer, across
    object files. bench/run starts it:
-     bench rows                   a line for each row: its number, its addresses, bytes, values or positions, its name
+     bench rows                   a line for each row: its number, its addresses, bytes, values, positions or calls, its name
      bench check                  compares each side's output with ours; ends with one line and status 1 where one differs
      bench repeat ROW SIDE TIMES  runs one side of a row so often, to have its instructions counted
      bench time ROW ROUNDS MS     prints ours/dividing and ours/stepping: the best of so many rounds, each of at least so many milliseconds */
@@ -18,11 +18,14 @@ static walk_call *const walks[][SIDES] = {
     [WRITTEN_OUT] = {interleaver_walk_l, divide_walk_written_out, step_walk_written_out},
     [SPATIAL] = {interleaver_walk_l, divide_spatial, step_spatial},
     [SPATIAL_M] = {interleaver_walk_m, divide_spatial_m, step_spatial_m},
+    [LTE] = {interleaver_walk_l, divide_lte, step_lte},
 };
 static move_call *const moves[][SIDES] = {
     [BYTES] = {interleaver_interleave_bytes, divide_bytes, step_bytes},
     [SOFT] = {interleaver_interleave_soft, divide_soft, step_soft},
     [SPATIAL_BYTES] = {interleaver_interleave_bytes, divide_spatial_bytes, step_spatial_bytes},
+    [LTE_BYTES] = {interleaver_interleave_bytes, divide_lte_bytes, step_lte_bytes},
+    [LTE_SOFT] = {interleaver_interleave_soft, divide_lte_soft, step_lte_soft},
 };
 static feed_call *const feeds[][SIDES] = {
     [FEED] = {interleaver_dvb_interleave, divide_interleave, step_interleave},
@@ -32,11 +35,16 @@ static feed_call *const feeds[][SIDES] = {
 static add_call *const adds[SIDES] = {interleaver_add_received, divide_add, step_add};
 read_call *const reads[SIDES] = {interleaver_read_sum, plain_read, plain_read};
 
-struct set sets[64];
-static struct row rows[64];
+struct set sets[96];
+static struct row rows[96];
 static uint32_t set_count, row_count, shown; /* the rows from `shown` on are compared, and are not in the table */
 
-static void add_set(uint32_t profile, uint32_t bits, uint32_t n, uint32_t stream) { sets[set_count++] = (struct set){profile, bits, n, stream}; }
+static void add_set(uint32_t profile, uint32_t bits, uint32_t n, uint32_t stream)
+{
+    sets[set_count++] = (struct set){profile, bits, n, stream, {0}};
+}
+
+static void add_lte(uint32_t k, uint32_t f1, uint32_t f2) { sets[set_count++] = (struct set){8, 1, k, 1, {f1, f2}}; }
 
 static void add_row(enum kind kind, uint32_t from, uint32_t count, uint32_t length, const char *name, const char *more)
 {
@@ -89,16 +97,35 @@ static void lay_out(void)
     add_row(SPATIAL_M, HT40_6_648_4, 1, 0, "walk for M", ", stream 4");
     add_row(SPATIAL_BYTES, HT20_1_52_2, 1, 0, "interleave bytes", ", stream 2");
     add_row(SPATIAL_BYTES, HT40_6_648_4, 1, 0, "interleave bytes", ", stream 4");
+    enum { QUADRATIC = HT + 32, QUADRATIC_40 = QUADRATIC, QUADRATIC_512, QUADRATIC_6144 };
+    add_lte(40, 3, 10);
+    add_lte(512, 31, 64);
+    add_lte(6144, 263, 480);
+    add_row(LTE, QUADRATIC_40, 1, 0, "walk", "");
+    add_row(LTE, QUADRATIC_512, 1, 0, "walk", "");
+    add_row(LTE, QUADRATIC_6144, 1, 0, "walk", "");
+    add_row(LTE, QUADRATIC_6144, 1, 1024, "walk", ", slices of 1024");
+    add_row(LTE, QUADRATIC_40, 1, NO_ROOM, "walk", ", no room");
+    add_row(LTE, QUADRATIC_6144, 1, NO_ROOM, "walk", ", no room");
+    add_row(LTE_BYTES, QUADRATIC_6144, 1, 0, "interleave bytes", "");
+    add_row(LTE_SOFT, QUADRATIC_6144, 1, 0, "interleave f32", "");
     shown = row_count;
     for (int i = 0; i < 4; i++)
         add_row(i < 2 ? SPATIAL : SPATIAL_M, HT, 32, i % 2 * 7, i < 2 ? "walk, profiles 6 and 7" : "walk for M, profiles 6 and 7",
                 i % 2 == 0 ? "" : ", slices of 7");
     add_row(SPATIAL_BYTES, HT, 32, 0, "interleave bytes, profiles 6 and 7", "");
+    add_lte(40, 39, 30); /* twice 30 passes 40 */
+    add_lte(1024, 31, 64);
+    add_lte(6144, 6143, 6138); /* the largest products */
+    add_row(LTE, QUADRATIC, 6, 0, "walk, profile 8", "");
+    add_row(LTE, QUADRATIC, 6, 7, "walk, profile 8", ", slices of 7");
+    add_row(LTE_BYTES, QUADRATIC, 6, 0, "interleave bytes, profile 8", "");
+    add_row(LTE_SOFT, QUADRATIC, 6, 0, "interleave f32, profile 8", "");
     static const uint32_t full[] = {40, 200, 5040};
     for (int i = 0; i < 3; i++)
         add_set(5, 1, full[i], 1);
-    add_row(WALK, HT + 32, 3, 0, "walk, full rectangles", "");
-    add_row(WALK, HT + 32, 3, 7, "walk, full rectangles", ", slices of 7");
+    add_row(WALK, QUADRATIC + 6, 3, 0, "walk, full rectangles", "");
+    add_row(WALK, QUADRATIC + 6, 3, 7, "walk, full rectangles", ", slices of 7");
 }
 
 struct area areas[SIDES];
@@ -135,11 +162,11 @@ void start(const struct row *r, int side)
 
 static uint32_t walk_set(const struct row *r, walk_call *walk, const struct set *set, struct area *a)
 {
-    uint32_t at = 0, written = 1, refused = 0;
+    uint32_t at = 0, written = 1, refused = 0, room = r->length == NO_ROOM ? 0 : r->length != 0 ? r->length : set->n;
     a->cell = a->cells = 0;
     while (at < set->n && written != 0 && refused == 0) {
         uint32_t cells = 0;
-        refused = walk(set, &a->cell, a->list + at, r->length != 0 ? r->length : set->n, &written, &cells);
+        refused = walk(set, &a->cell, a->list + at, room, &written, &cells);
         at += written;
         a->cells += cells;
     }
@@ -170,7 +197,7 @@ uint32_t once(const struct row *r, int side)
         return feeds[r->kind][side](a->record, a->store, STORE, input, r->length, a->bytes, r->length);
     uint32_t refused = 0;
     for (const struct set *s = sets + r->from; s < sets + r->from + r->sets && refused == 0; s++) {
-        if (r->kind <= SPATIAL_M)
+        if (r->kind <= LTE)
             refused = walk_set(r, walks[r->kind][side], s, a);
         else if (r->kind == READ)
             refused = read_set(side, s, a);
@@ -182,12 +209,12 @@ uint32_t once(const struct row *r, int side)
     return refused;
 }
 
-/* How many addresses, bytes, values or positions that makes. */
+/* How many addresses, bytes, values or positions that makes; calls where there is no room. */
 static uint32_t amount(const struct row *r)
 {
     uint32_t sum = r->kind == FEED || r->kind == FEED_BACK ? r->length : 0;
     for (uint32_t i = 0; i < r->sets; i++)
-        sum += sets[r->from + i].n;
+        sum += r->length == NO_ROOM ? 1 : sets[r->from + i].n;
     return sum;
 }
 

@@ -4,12 +4,13 @@
 #include "plain.h"
 
 enum { OURS, DIVIDE, STEP, SIDES };
-enum kind { WALK, WRITTEN_OUT, SPATIAL, SPATIAL_M, BYTES, SOFT, SPATIAL_BYTES, FEED, FEED_BACK, ADD, ADD_SOME, READ };
+enum kind { WALK, WRITTEN_OUT, SPATIAL, SPATIAL_M, LTE, BYTES, SOFT, SPATIAL_BYTES, LTE_BYTES, LTE_SOFT, FEED, FEED_BACK, ADD, ADD_SOME, READ };
 extern read_call *const reads[SIDES];
 
-/* A row: some sets in a row from the list of sets, the room of a walk (0: a whole block), or the length of a feed. */
+/* A row: some sets in a row from the list of sets, the room of a walk (0: a whole block; NO_ROOM: none), or the length of a feed. */
+enum { NO_ROOM = 65536 };
 struct row { enum kind kind; uint32_t from, sets, length; char name[80]; };
-extern struct set sets[64];
+extern struct set sets[96];
 
 /* What a side writes to. The input is the same for all. */
 enum { LIST = 8192, BYTE = 65536, MOST = 5114 };

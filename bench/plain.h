@@ -1,6 +1,6 @@
 /* What the two plain C's offer, in the same call shapes as the proved library: `divide_` works each address or byte out by document 01's
    formula, `step_` keeps counters. Neither tests its input, but where receptions are added up or read. `_written_out` is the same C with d
-   and s as constants of the compiler; `_spatial` serves profiles 6 and 7, and the others do not. */
+   and s as constants of the compiler; `_spatial` serves profiles 6 and 7, `_lte` profile 8, and the others do not. */
 #ifndef PLAIN_H
 #define PLAIN_H
 
@@ -8,6 +8,7 @@
 typedef __UINT8_TYPE__ uint8_t;
 typedef __UINT16_TYPE__ uint16_t;
 typedef __UINT32_TYPE__ uint32_t;
+typedef __UINT64_TYPE__ uint64_t;
 typedef __SIZE_TYPE__ size_t;
 #define offsetof(type, part) __builtin_offsetof(type, part)
 struct timespec { long tv_sec, tv_nsec; };
@@ -30,16 +31,18 @@ void *memset(void *, int, size_t);
 
 #define INLINE static inline __attribute__((always_inline))
 
-struct set { uint32_t profile, bits, n, stream; };
+struct set { uint32_t profile, bits, n, stream, factors[4]; };
 
 /* From *cell on, as far as there is room and cells; moves *cell on, and says how many addresses were written and cells examined. */
 typedef uint32_t walk_call(const struct set *, uint32_t *cell, uint16_t *out, size_t room, uint32_t *written, uint32_t *cells);
 walk_call divide_walk, divide_walk_written_out, step_walk, step_walk_written_out;
 walk_call divide_spatial, step_spatial, divide_spatial_m, step_spatial_m; /* for L, and for M */
+walk_call divide_lte, step_lte;
 
 /* dst[t] = src[L(t)], of bytes or of f32. */
 typedef uint32_t move_call(const struct set *, const void *src, size_t, void *dst, size_t);
 move_call divide_bytes, divide_soft, step_bytes, step_soft, divide_spatial_bytes, step_spatial_bytes;
+move_call divide_lte_bytes, divide_lte_soft, step_lte_bytes, step_lte_soft;
 
 /* A received block added to what is stored, value t at L(t), with the tests of the library; and a position read, which takes no address. */
 typedef uint32_t add_call(const struct set *, const float *received, size_t, const uint8_t *present, size_t, float *sums, size_t, uint16_t *counts,

@@ -24,19 +24,21 @@ extern "C" {
 
 /* A parameter set. Any numbers may be given: each call tests them. One written as {3, 1, 48} has stream 0, and every call refuses it with 16. */
 typedef struct interleaver_set {
-    uint32_t profile; /* see below */
-    uint32_t bits;    /* bits per carrier: 1, 2, 4 or 6; profile 5: 1 */
-    uint32_t n;       /* symbols of a block */
-    uint32_t stream;  /* spatial stream: 1 to 4 for profiles 6 and 7, 1 for every other */
+    uint32_t profile;    /* see below */
+    uint32_t bits;       /* bits per carrier: 1, 2, 4 or 6; profiles 5 and 8: 1 */
+    uint32_t n;          /* symbols of a block */
+    uint32_t stream;     /* spatial stream: 1 to 4 for profiles 6 and 7, 1 for every other */
+    uint32_t factors[4]; /* of profile 8: f1 and f2; the last two, and all four of every other profile, are not read */
 } interleaver_set;
 
-/* The set of stream 1. For another: set.stream = 4; */
+/* The set of stream 1, with factors of 0. For another stream: set.stream = 4; */
 static inline interleaver_set interleaver_set_of(uint32_t profile, uint32_t bits, uint32_t n) {
     interleaver_set set;
     set.profile = profile;
     set.bits = bits;
     set.n = n;
     set.stream = 1;
+    set.factors[0] = set.factors[1] = set.factors[2] = set.factors[3] = 0;
     return set;
 }
 
@@ -47,38 +49,54 @@ static inline interleaver_set interleaver_set_of(uint32_t profile, uint32_t bits
 #define INTERLEAVER_WCDMA 5u /* 3GPP TS 25.212, turbo */
 #define INTERLEAVER_HT20 6u  /* IEEE 802.11n, 20 MHz */
 #define INTERLEAVER_HT40 7u  /* IEEE 802.11n, 40 MHz */
+#define INTERLEAVER_LTE 8u   /* 3GPP TS 36.212, turbo */
 
-#define INTERLEAVER_MAX_N 5114u         /* the largest n of any set */
+/* The set of profile 8 for a block of k, L(t) = (f1*t + f2*t*t) mod k. k is 40 to 512 by 8, to 1,024 by 16, to 2,048 by 32, to 6,144 by 64. */
+static inline interleaver_set interleaver_set_lte(uint32_t k, uint32_t f1, uint32_t f2) {
+    interleaver_set set = interleaver_set_of(INTERLEAVER_LTE, 1, k);
+    set.factors[0] = f1;
+    set.factors[1] = f2;
+    return set;
+}
+
+#define INTERLEAVER_MAX_N 6144u         /* the largest n of any set */
 #define INTERLEAVER_DVB_STORE 1122u     /* bytes of a DVB machine's store */
 #define INTERLEAVER_DVB_PHASES 5654880u /* a phase is below this */
 #define INTERLEAVER_DVB_DELAY 2244u     /* an interleaver and a deinterleaver together are this many bytes late */
 
 #define INTERLEAVER_DONE 0u
-#define INTERLEAVER_PROFILE 1u   /* the profile isn't 1 to 7, or it is 5 and the call is the walk for M */
+#define INTERLEAVER_PROFILE 1u   /* the profile isn't 1 to 8, or it is 5 or 8 and the call is the walk for M */
 #define INTERLEAVER_BITS 2u      /* the bits aren't listed for the profile */
-#define INTERLEAVER_SIZE 3u      /* n isn't listed for that profile and those bits */
+#define INTERLEAVER_SIZE 3u      /* n isn't listed for that profile and those bits, or k not for profile 8 */
 #define INTERLEAVER_POSITION 4u  /* a position is n or more */
 #define INTERLEAVER_INPUT 5u     /* a block's input isn't n long, or its presence bytes aren't */
 #define INTERLEAVER_OUTPUT 6u    /* a block's output isn't n long, or sums or counts aren't, or a feed's output isn't as long as its input */
 #define INTERLEAVER_STORE 7u     /* a store isn't 1,122 bytes */
 #define INTERLEAVER_SEARCH 8u    /* the search for q passes 89: proved never to happen */
 #define INTERLEAVER_RECORD 9u    /* a cell is past the cell total, or a phase is 5,654,880 or more */
+#define INTERLEAVER_SHARED 10u   /* profile 8: two positions would share an address */
+#define INTERLEAVER_FACTORS 11u  /* profile 8: f1 or f2 is 0, or not below n */
 #define INTERLEAVER_FINITE 13u   /* a present value, a stored sum whose count isn't 0, or the sum of these two isn't finite */
 #define INTERLEAVER_PRESENCE 14u /* a presence byte is above 1 */
 #define INTERLEAVER_COUNT 15u    /* a count would pass 65,535 */
 #define INTERLEAVER_STREAM 16u   /* the stream isn't 1 to 4, or isn't 1 and the profile is neither 6 nor 7 */
 
-/* The test of a parameter set. Refusals 1, 2, 3, 16. */
+/* The test of a parameter set. Refusals 1, 2, 3, 16, 11, 10. */
 uint32_t interleaver_test(const interleaver_set *set);
 
-/* One address: *address = L(t), or M(k). Refusals 1, 2, 3, 16, 11, 10, 8, 4. */
+/* The standard's own factors for a block of k of profile 8, 3GPP TS 36.212 table 5.1.3-3: f1, f2, 0, 0. A set's own may be handed over: set.factors.
+   Every set made of them is accepted. Refusal 3. */
+uint32_t interleaver_lte_factors(uint32_t k, uint32_t factors[4]);
+
+/* One address: *address = L(t), or M(k). For profile 5 it is looked up in a whole list that is walked first; M(k) of profile 8 is found by walking
+   there, k being met after up to n steps; every other is reckoned at once. Refusals 1, 2, 3, 16, 11, 10, 8, 4. */
 uint32_t interleaver_address_l(const interleaver_set *set, uint32_t t, uint32_t *address);
 uint32_t interleaver_address_m(const interleaver_set *set, uint32_t k, uint32_t *address);
 
 /* A walk: the addresses of L, or of M, from *cell on, until out is full or no cell is left; begin with *cell = 0, and hand *cell on, until
    *written is below out_len: then the walk is at its end. A cell is a place of the list, or for profile 5 of a rectangle, where some cells are padding
    and have no address. *written is how many addresses were written, *cells how many cells were passed. The rest of out
-   keeps what it held. Refusals of the walk for L 1, 2, 3, 16, 11, 10, 8, 9; of the walk for M 1 (profile 5 too), 2, 3, 16, 9. */
+   keeps what it held. Refusals of the walk for L 1, 2, 3, 16, 11, 10, 8, 9; of the walk for M 1 (profiles 5 and 8 too), 2, 3, 16, 9. */
 uint32_t interleaver_walk_l(const interleaver_set *set, uint32_t *cell, uint16_t *out, size_t out_len, uint32_t *written, uint32_t *cells);
 uint32_t interleaver_walk_m(const interleaver_set *set, uint32_t *cell, uint16_t *out, size_t out_len, uint32_t *written, uint32_t *cells);
 

@@ -8,17 +8,26 @@
 #define EXPECT(ok) expect((ok), #ok, __FILE__, __LINE__)
 void expect(int ok, const char *what, const char *file, int line);
 
+/* a set without factors, and one of profile 8 */
+#define SET(profile, bits, n, stream) {profile, bits, n, stream, {0, 0, 0, 0}}
+#define LTE(n, f1, f2) {8, 1, n, 1, {f1, f2, 0, 0}}
+
 /* sets of every profile that are accepted, from SPATIAL on all of profiles 6 and 7, and sets that are refused, each with its number */
-enum { SETS = 49, SPATIAL = 17, REFUSED = 25, MAX = INTERLEAVER_MAX_N };
+enum { SETS = 54, SPATIAL = 22, REFUSED = 38, MAX = INTERLEAVER_MAX_N };
 extern const interleaver_set accepted[SETS];
 extern const struct refused_set {
     interleaver_set set;
     uint32_t number;
 } refused[REFUSED];
 
+int walks_m(uint32_t profile); /* whether a profile has a walk for M: every one but 5 and 8 */
+
 /* L(t) and M(k) of an accepted set */
 uint32_t at_l(interleaver_set set, uint32_t t);
 uint32_t at_m(interleaver_set set, uint32_t k);
+
+uint32_t quadratic(interleaver_set set, uint32_t t); /* L(t) of a set of profile 8, by its formula */
+uint32_t next_k(uint32_t k); /* the size of profile 8 behind a listed one */
 
 uint8_t byte_of(uint32_t i); /* a byte for each place */
 int all_bytes(const uint8_t *p, size_t n, uint8_t x); /* whether n bytes are all x */
@@ -66,6 +75,8 @@ void sums_of_refused_sets(void);
 
 void walks(void);
 void spatial(void);
+void lte(void);
+void lte_refused(void);
 void order_of_refusals(void);
 void bytes(void);
 void floats(void);

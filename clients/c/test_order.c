@@ -1,4 +1,4 @@
-/* The order of refusals in every call on a set: those of the set, 1, 2, 3, 16, then the call's own. Nothing that is lent is changed. */
+/* The order of refusals in every call on a set: those of the set, 1, 2, 3, 16, 11, 10, then the call's own. Nothing that is lent is changed. */
 #include "test.h"
 
 #define FAR 4294967295u
@@ -15,9 +15,9 @@ static const float soft[LONG];
 /* the set's number, or where the set is accepted that of the call's own fault */
 static uint32_t first(uint32_t number, uint32_t own) { return number != 0 ? number : own; }
 
-/* positions and cells that are past the end. The walk for M refuses profile 5 with 1 */
+/* positions and cells that are past the end. The walk for M refuses profiles 5 and 8 with 1 */
 static void places(interleaver_set set, uint32_t number) {
-    uint32_t back = set.profile == 5 ? 1 : first(number, INTERLEAVER_RECORD);
+    uint32_t back = walks_m(set.profile) ? first(number, INTERLEAVER_RECORD) : 1;
     EXPECT(interleaver_test(&set) == number);
     EXPECT(interleaver_address_l(&set, set.n, &lent.address) == first(number, INTERLEAVER_POSITION));
     EXPECT(interleaver_address_m(&set, FAR, &lent.address) == first(number, INTERLEAVER_POSITION));
@@ -61,7 +61,7 @@ static void receptions(interleaver_set set, interleaver_set shape, uint32_t numb
 
 /* a refused set in calls that have no other fault */
 static void alone(interleaver_set set, interleaver_set shape, uint32_t number) {
-    uint32_t back = set.profile == 5 ? 1 : number;
+    uint32_t back = walks_m(set.profile) ? number : 1;
     size_t n = shape.n, length[4] = {n, n, n, n};
     EXPECT(interleaver_address_l(&set, 0, &lent.address) == number);
     EXPECT(interleaver_address_m(&set, 0, &lent.address) == number);
@@ -90,24 +90,41 @@ static void every_call(interleaver_set set, interleaver_set shape, uint32_t numb
     EXPECT(memcmp(&lent, &before, sizeof lent) == 0);
 }
 
+/* a set's fault with those before it put upon it one by one: 3, 2, 1 */
+static void upwards(interleaver_set set, interleaver_set shape, uint32_t number, uint32_t profile) {
+    every_call(set, shape, number);
+    set.n = 7;
+    every_call(set, shape, INTERLEAVER_SIZE);
+    set.bits = 3;
+    every_call(set, shape, INTERLEAVER_BITS);
+    set.profile = profile;
+    every_call(set, shape, INTERLEAVER_PROFILE);
+}
+
 void order_of_refusals(void) {
-    static const interleaver_set shapes[] = {{1, 6, 72, 1}, {2, 2, 96, 1}, {3, 4, 192, 1}, {4, 4, 64, 1}, {5, 1, 40, 1}, {6, 1, 52, 1},
-        {6, 4, 208, 2}, {7, 2, 216, 3}, {7, 6, 648, 4}};
+    static const interleaver_set shapes[] = {SET(1, 6, 72, 1), SET(2, 2, 96, 1), SET(3, 4, 192, 1), SET(4, 4, 64, 1), SET(5, 1, 40, 1),
+        SET(6, 1, 52, 1), SET(6, 4, 208, 2), SET(7, 2, 216, 3), SET(7, 6, 648, 4), LTE(40, 3, 10)};
     static const uint32_t streams_tried[] = {2, 3, 4, 0, 5, 6, 257, 65537, 2147483649u, FAR};
+    static const struct {
+        uint32_t f1, f2, number;
+    } factors_tried[] = {{0, 10, 11}, {3, 0, 11}, {40, 10, 11}, {3, 40, 11}, {2, FAR, 11}, {FAR, 8, 11}, {3, 8, 10}, {5, 10, 10}, {2, 10, 10}};
     unsigned i, j;
     for (i = 0; i < sizeof shapes / sizeof shapes[0]; i++) {
         interleaver_set shape = shapes[i];
+        int spatial = shape.profile == 6 || shape.profile == 7;
         every_call(shape, shape, INTERLEAVER_DONE);
         for (j = 0; j < sizeof streams_tried / sizeof streams_tried[0]; j++) {
             interleaver_set set = shape;
             set.stream = streams_tried[j];
-            every_call(set, shape, j < 3 && shape.profile >= 6 ? INTERLEAVER_DONE : INTERLEAVER_STREAM);
-            set.n = 7;
-            every_call(set, shape, INTERLEAVER_SIZE);
-            set.bits = 3;
-            every_call(set, shape, INTERLEAVER_BITS);
-            set.profile = j % 2 == 0 ? 8 : 0;
-            every_call(set, shape, INTERLEAVER_PROFILE);
+            upwards(set, shape, j < 3 && spatial ? INTERLEAVER_DONE : INTERLEAVER_STREAM, j % 2 == 0 ? 9 : 0);
+        }
+        for (j = 0; j < sizeof factors_tried / sizeof factors_tried[0]; j++) {
+            interleaver_set set = shape;
+            set.factors[0] = factors_tried[j].f1;
+            set.factors[1] = factors_tried[j].f2;
+            every_call(set, shape, shape.profile == 8 ? factors_tried[j].number : INTERLEAVER_DONE); /* no other profile reads them */
+            set.stream = 5;
+            upwards(set, shape, INTERLEAVER_STREAM, 9);
         }
     }
 }

@@ -147,7 +147,7 @@ void sums_refused(interleaver_set set, const uint16_t *l) {
 
 /* sets that are refused: before every other fault of the call */
 void sums_of_refused_sets(void) {
-    static const interleaver_set shape = {3, 4, 192, 1};
+    static const interleaver_set shape = SET(3, 4, 192, 1);
     size_t length[4] = {192, 192, 192, 192}, off[4] = {7, 8, 9, 10};
     uint16_t count = 9;
     float x = 2;

@@ -4,7 +4,7 @@
 //! `out[L(t)] = in[t]`. A call that is refused leaves every slice as it was.
 //!
 //! ```
-//! use interleaver::{Refusal, Set};
+//! use interleaver::{lte, Refusal, Set};
 //!
 //! let set = Set::new(3, 4, 192)?; // IEEE 802.11a, 4 bits per carrier
 //! let input: Vec<u8> = (0..192).collect();
@@ -17,12 +17,16 @@
 //!
 //! let fourth = Set::new(7, 6, 648)?.with_stream(4); // IEEE 802.11n at 40 MHz, the fourth spatial stream
 //! assert_eq!((fourth.target(0)?, fourth.source(126)?), (126, 0));
+//!
+//! let (f1, f2) = lte::factors(6144)?; // LTE's turbo interleaver, with the standard's own factors
+//! assert_eq!(Set::lte(6144, f1, f2)?.source(1)?, f1 + f2);
 //! # Ok::<(), Refusal>(())
 //! ```
 //!
 //! What each call does is proved: see the contracts in `crates/exports/src`. What is left to this crate is that the pointers it hands over
 //! are those of live slices that do not overlap, which is what a `&` and a `&mut` are.
 
+pub mod lte;
 mod refusal;
 mod sums;
 
@@ -33,6 +37,7 @@ mod raw {
     use super::Set;
     extern "C" {
         pub fn interleaver_test(set: &Set) -> u32;
+        pub fn interleaver_lte_factors(k: u32, factors: &mut [u32; 4]) -> u32;
         pub fn interleaver_address_l(set: &Set, t: u32, address: &mut u32) -> u32;
         pub fn interleaver_address_m(set: &Set, k: u32, address: &mut u32) -> u32;
         pub fn interleaver_walk_l(set: &Set, cell: &mut u32, out: *mut u16, len: usize, written: &mut u32, cells: &mut u32) -> u32;
@@ -85,8 +90,9 @@ fn answer(number: u32) -> Result<(), Refusal> {
     }
 }
 
-/// A parameter set: a profile (1 IEEE 802.16 OFDM, 2 OFDMA, 3 IEEE 802.11a, 4 bench, 5 WCDMA turbo, 6 IEEE 802.11n at 20 MHz, 7 at 40 MHz), bits per
-/// carrier, the block's size N, and for profiles 6 and 7 a spatial stream from 1 to 4. Each call tests it.
+/// A parameter set: a profile (1 IEEE 802.16 OFDM, 2 OFDMA, 3 IEEE 802.11a, 4 bench, 5 WCDMA turbo, 6 IEEE 802.11n at 20 MHz, 7 at 40 MHz, 8 LTE
+/// turbo), bits per carrier, the block's size N, for profiles 6 and 7 a spatial stream from 1 to 4, for profile 8 the factors f1 and f2. Each call
+/// tests it.
 #[derive(Clone, Copy, Debug, PartialEq, Eq)]
 #[repr(C)]
 pub struct Set {
@@ -94,6 +100,7 @@ pub struct Set {
     bits: u32,
     n: u32,
     stream: u32,
+    factors: [u32; 4],
 }
 
 // One body for each of the block calls, which differ in a name, a type and whether a symbol's width is named.
@@ -108,9 +115,9 @@ macro_rules! block_call {
 }
 
 impl Set {
-    /// The set of stream 1, tested.
+    /// The set of stream 1, tested. It has no factors, so that profile 8 is refused: [`Set::lte`] makes sets of that.
     pub fn new(profile: u32, bits: u32, n: u32) -> Result<Set, Refusal> {
-        let set = Set { profile, bits, n, stream: 1 };
+        let set = Set { profile, bits, n, stream: 1, factors: [0; 4] };
         set.test().map(|()| set)
     }
 
@@ -121,7 +128,7 @@ impl Set {
 
     /// Tests the set.
     pub fn test(&self) -> Result<(), Refusal> {
-        // SAFETY: the set is four numbers in a row, as every call reads it.
+        // SAFETY: the set is eight numbers in a row, as every call reads it.
         answer(unsafe { raw::interleaver_test(self) })
     }
 
@@ -137,7 +144,7 @@ impl Set {
         answer(unsafe { raw::interleaver_address_l(self, t, &mut address) }).map(|()| address)
     }
 
-    /// M(k): the output index that input `k` goes to.
+    /// M(k): the output index that input `k` goes to. For profile 8 it is found by walking there, up to N steps.
     pub fn target(&self, k: u32) -> Result<u32, Refusal> {
         let mut address = 0;
         // SAFETY: as above.
@@ -150,7 +157,7 @@ impl Set {
         Walk::sources(*self).fill(&mut list).map(|_| list)
     }
 
-    /// The whole list M. Profile 5 is refused.
+    /// The whole list M. Profiles 5 and 8 are refused.
     pub fn targets(&self) -> Result<Vec<u16>, Refusal> {
         let mut list = vec![0; self.size()];
         Walk::targets(*self).fill(&mut list).map(|_| list)
@@ -188,7 +195,7 @@ impl Walk {
         Walk { set, cell: 0, back: false }
     }
 
-    /// The walk for M. Its steps are refused for profile 5.
+    /// The walk for M. Its steps are refused for profiles 5 and 8.
     pub fn targets(set: Set) -> Walk {
         Walk { set, cell: 0, back: true }
     }

@@ -38,7 +38,7 @@ macro_rules! refusals {
 }
 
 refusals! {
-    1 Profile "no such profile, or the walk for M of profile 5"
+    1 Profile "no such profile, or the walk for M of profile 5 or 8"
     2 Bits "the bits aren't listed for the profile"
     3 Size "N isn't listed for that profile and those bits"
     4 Position "a position is N or more"
@@ -47,6 +47,8 @@ refusals! {
     7 Store "a store isn't 1,122 bytes; never here, since a `Dvb` has its own"
     8 Search "the search for q passes 89; proved never to happen"
     9 Record "a walk's cell is past the cell total"
+    10 Shared "two positions would share an address, by the factors of profile 8"
+    11 Factors "f1 or f2 of profile 8 is 0, or not below N"
     13 Finite "a present value, a stored sum whose count isn't 0, or the sum of these two isn't finite"
     14 Presence "a presence byte is above 1"
     15 Count "a count would pass 65,535"

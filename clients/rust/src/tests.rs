@@ -1,19 +1,21 @@
 // Every function of the wrapper over the archive: refusals, slices left alone, the bits of floats and sums, walks and streams cut into parts.
-// spatial.rs has the streams of profiles 6 and 7.
+// spatial.rs has the streams of profiles 6 and 7, factors.rs the factors of profile 8.
 use super::*;
 
+mod factors;
 mod spatial;
 
 fn sets() -> impl Iterator<Item = Set> {
     let listed = [(1, 1, 12), (1, 6, 1152), (2, 6, 576), (3, 4, 192), (3, 6, 288), (4, 6, 96), (5, 1, 40), (5, 1, 41), (5, 1, 2281), (5, 1, 5114)];
-    listed.into_iter().map(|(profile, bits, n)| Set::new(profile, bits, n).unwrap()).chain(spatial::sets())
+    listed.into_iter().map(|(profile, bits, n)| Set::new(profile, bits, n).unwrap()).chain(spatial::sets()).chain(factors::sets())
 }
 
 #[test]
 fn a_set_is_tested() {
-    for (number, (profile, bits, n)) in [(1, (0, 4, 192)), (1, (8, 1, 48)), (2, (2, 1, 96)), (3, (3, 4, 96)), (3, (5, 1, 39)), (3, (5, 1, 5115))] {
+    for (number, (profile, bits, n)) in [(1, (0, 4, 192)), (1, (9, 1, 48)), (2, (2, 1, 96)), (3, (3, 4, 96)), (3, (5, 1, 39)), (3, (5, 1, 5115))] {
         assert_eq!(Set::new(profile, bits, n).unwrap_err().number(), number);
     }
+    assert_eq!([(1, 48), (4, 48), (1, 520)].map(|(bits, n)| Set::new(8, bits, n).unwrap_err().number()), [11, 2, 3]);
     assert_eq!(Set::new(3, 3, 192).unwrap_err().to_string(), "refused with 2: the bits aren't listed for the profile");
 }
 
@@ -22,13 +24,13 @@ fn a_refusal_is_its_number() {
     assert_eq!(answer(0), Ok(()));
     for number in (1..1000).chain([u32::MAX]) {
         let refusal = answer(number).unwrap_err();
-        assert_eq!((refusal.number(), refusal == Refusal::Other(number)), (number, !matches!(number, 1..=9 | 13..=16)));
+        assert_eq!((refusal.number(), refusal == Refusal::Other(number)), (number, !matches!(number, 1..=11 | 13..=16)));
         assert!(refusal.to_string().starts_with(&format!("refused with {number}: ")));
     }
     assert_eq!([1, 5, 6, 9].map(|number| answer(number).unwrap_err()), [Refusal::Profile, Refusal::Input, Refusal::Output, Refusal::Record]);
-    let late = [Refusal::Finite, Refusal::Presence, Refusal::Count, Refusal::Stream];
-    assert_eq!([13, 14, 15, 16].map(|number| answer(number).unwrap_err()), late);
-    assert_eq!(answer(10).unwrap_err().to_string(), "refused with 10: for a reason that has no name here");
+    let late = [Refusal::Shared, Refusal::Factors, Refusal::Finite, Refusal::Presence, Refusal::Count, Refusal::Stream];
+    assert_eq!([10, 11, 13, 14, 15, 16].map(|number| answer(number).unwrap_err()), late);
+    assert_eq!(answer(12).unwrap_err().to_string(), "refused with 12: for a reason that has no name here");
 }
 
 #[test]
@@ -69,7 +71,7 @@ fn walks_cut_into_parts() {
         assert_eq!((walk, part), (past, [7; 61]));
         match set.targets() {
             Ok(back) => assert!(back.iter().enumerate().all(|(k, &m)| list[m as usize] as usize == k)),
-            Err(number) => assert_eq!((number, set.profile), (Refusal::Profile, 5)),
+            Err(number) => assert!(number == Refusal::Profile && matches!(set.profile, 5 | 8)),
         }
     }
 }

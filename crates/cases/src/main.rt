@@ -1,7 +1,8 @@
-// The cases of document 01 that no proved table states, two lists of request 4 that are worked by hand, and some refusals, by the public calls: each is
-// printed with its outcome.
+// The cases of document 01 that no proved table states, two lists of request 4 and one of request 6 that are worked by hand, and some refusals, by the
+// public calls: each is printed with its outcome.
 mod looks;
 mod nothing;
+mod squares;
 mod turned;
 mod words;
 
@@ -58,7 +59,7 @@ fn tests() {
     test(1, 6, 1152);
     test(1, 6, 1153);
     test(0, 1, 48);
-    test(8, 1, 48);
+    test(9, 1, 48);
 }
 
 fn tell_written(slots: &[u16], written: u32) {
@@ -209,10 +210,12 @@ fn show_softs() {
 fn main() {
     tests();
     turned::test_streams();
+    squares::test_factors();
     show_walks();
     turned::show_turned();
     show_ones();
     turned::show_ones();
+    squares::show_squares();
     show_blocks(Way::Interleaver);
     show_blocks(Way::Deinterleaver);
     show_softs();

@@ -27,13 +27,17 @@ pub fn either(way: Way, there: &[u8], again: &[u8]) {
     }
 }
 
-// A parameter set, in the middle of a line: the stream where it is not 1.
+// A parameter set, in the middle of a line: the stream where it is not 1, f1 and f2 where they are not 0.
 pub fn set(s: Set) {
     number(b" profile ", s.profile as u64);
     number(b" bits ", s.bits as u64);
     number(b" N ", s.n as u64);
     if s.stream != 1 {
         number(b" stream ", s.stream as u64);
+    }
+    if (s.factors.first != 0) | (s.factors.second != 0) {
+        number(b" f1 ", s.factors.first as u64);
+        number(b" f2 ", s.factors.second as u64);
     }
 }
 

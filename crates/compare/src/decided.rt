@@ -48,7 +48,7 @@ fn verdict(k: u32, first: u32, second: u32) -> u32 {
 }
 
 // The number that trying gives: 11 for a number that is 0 or not below K, 10 where two positions share an address.
-fn tried(k: u32, f1: u32, f2: u32, seen: &mut [u16]) -> u32 {
+fn expected(k: u32, f1: u32, f2: u32, seen: &mut [u16]) -> u32 {
     if (f1 == 0) | ((f2 == 0) | ((f1 >= k) | (f2 >= k))) {
         return 11;
     }
@@ -58,15 +58,21 @@ fn tried(k: u32, f1: u32, f2: u32, seen: &mut [u16]) -> u32 {
     0
 }
 
-// Every f2 of a K and an f1; f1 and f2 are exchanged for the test, where that is wrong on purpose.
+// One set; f1 and f2 are exchanged for the test, where that is wrong on purpose. A number past K is passed over.
+fn one(k: u32, f1: u32, f2: u32, exchanged: bool, seen: &mut [u16], so_far: Tried) -> Tried {
+    if (f1 > k) | (f2 > k) {
+        return so_far;
+    }
+    let got = if exchanged { verdict(k, f2, f1) } else { verdict(k, f1, f2) };
+    so_far.with(got, expected(k, f1, f2, seen))
+}
+
+// Every f2 with a K and an f1.
 fn each_second(k: u32, f1: u32, exchanged: bool, seen: &mut [u16], so_far: Tried) -> Tried {
     let mut t = so_far;
     let mut f2 = 0;
     while f2 <= 128 {
-        if f2 <= k {
-            let got = if exchanged { verdict(k, f2, f1) } else { verdict(k, f1, f2) };
-            t = t.with(got, tried(k, f1, f2, seen));
-        }
+        t = one(k, f1, f2, exchanged, seen, t);
         f2 += 1;
     }
     t
@@ -76,9 +82,7 @@ fn each_first(k: u32, exchanged: bool, seen: &mut [u16], so_far: Tried) -> Tried
     let mut t = so_far;
     let mut f1 = 0;
     while f1 <= 128 {
-        if f1 <= k {
-            t = each_second(k, f1, exchanged, seen, t);
-        }
+        t = each_second(k, f1, exchanged, seen, t);
         f1 += 1;
     }
     t

@@ -1,12 +1,14 @@
-// A parameter set tested, one address, a list of addresses.
+// A parameter set tested, LTE's own factors, one address, a list of addresses.
+use flat::FACTORS;
 use flat::SET;
 use laws::Way;
 ghost use mathlib.Core.Path.{_≡_};
 ghost use Prim.Native.Nat.{ℕ};
 ghost use Rattle.laws.specs.declared.Way.the-variants.{Interleaver, Deinterleaver};
 ghost use Rattle.sets.specs.Verdict.{verdictOf};
+ghost use Rattle.lte.specs.Factors.{givenOf};
 ghost use Rattle.walks.specs.Answer.{sliceOf, foundOf, Values};
-ghost use Rattle.flat.specs.Flat.{setOf, walkOf, lentWalk, numberOf, outOf};
+ghost use Rattle.flat.specs.Flat.{setOf, walkOf, lentWalk, numberOf, outOf, factorsList};
 
 // The test of a set. Refusals 1, 2, 3, 16, 11, 10.
 #[no_mangle]
@@ -14,6 +16,15 @@ pub extern "C" fn interleaver_test(set: &[u32; SET]) -> u32
     ensures { λ r. ⌜ r ≡ numberOf (verdictOf (setOf (now (set .entry)))) ⌝ }
 {
     flat::tested(sets::test(flat::set_of(set)))
+}
+
+// The factors of a K of LTE, 3GPP TS 36.212 table 5.1.3-3. Refusal 3.
+#[no_mangle]
+pub extern "C" fn interleaver_lte_factors(k: u32, factors: &mut [u32; FACTORS]) -> u32
+    ensures number { λ r. ⌜ r ≡ numberOf (givenOf k) ⌝ }
+    ensures factors { λ r. ⌜ now (factors .exit) ≡ outOf (givenOf k) factorsList (now (factors .entry)) ⌝ }
+{
+    flat::given(lte::factors(k), factors)
 }
 
 // L(t). Refusals 1, 2, 3, 16, 11, 10, 8, 4.

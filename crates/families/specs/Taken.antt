@@ -25,7 +25,7 @@ pub record Taken (s : Set) (family : Family) : Type 0 where
   pub accepted : Accepted s
   pub which : familyOf s ≡ family
 
--- the family, by the questions
+-- the family, by the questions (that of the quadratic interleaver is in specs/Beside.antt of sets)
 pub the-turbo : (s : Set) → isTurbo (familyOf s) ≡ true → familyOf s ≡ Turbo
 the-turbo s e = go (familyOf s) e
   where
@@ -43,15 +43,6 @@ the-spatial s e = go (familyOf s) e
     go Spatial e = refl
     go Turbo e = absurd (false≢true e)
     go Quadratic e = absurd (false≢true e)
-
-pub the-quadratic : (s : Set) → isQuadratic (familyOf s) ≡ true → familyOf s ≡ Quadratic
-the-quadratic s e = go (familyOf s) e
-  where
-    go : (f : Family) → isQuadratic f ≡ true → f ≡ Quadratic
-    go Carrier e = absurd (false≢true e)
-    go Spatial e = absurd (false≢true e)
-    go Turbo e = absurd (false≢true e)
-    go Quadratic e = refl
 
 pub the-carrier : (s : Set) → isTurbo (familyOf s) ≡ false → isSpatial (familyOf s) ≡ false → isQuadratic (familyOf s) ≡ false → familyOf s ≡ Carrier
 the-carrier s e o u = go (familyOf s) e o u

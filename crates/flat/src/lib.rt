@@ -61,10 +61,7 @@ pub fn given(g: Given, factors: &mut [u32; FACTORS]) -> u32
 {
     match g {
         Given::Of(f) => {
-            factors[0] = f.first;
-            factors[1] = f.second;
-            factors[2] = f.third;
-            factors[3] = f.fourth;
+            *factors = [f.first, f.second, f.third, f.fourth];
             0
         }
         Given::Refused(x) => x.number,

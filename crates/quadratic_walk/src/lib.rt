@@ -41,13 +41,21 @@ impl Spot {
     }
 }
 
+// What the difference grows by: 2·f2, modulo K.
+fn twice_of(k: usize, f2: usize) -> usize
+    requires { ⌜ (f2 < k) × (k < 65536) ⌝ }
+    ensures { λ r. ⌜ r ≡ 2 * f2 % k ⌝ }
+{
+    2 * f2 % k
+}
+
 // Writes L from a cell on, as far as there is room and cells; gives back how many.
 fn write(k: usize, f1: usize, f2: usize, cell: usize, out: &mut [u16]) -> usize
     requires { ⌜ Block k f1 f2 cell ⌝ }
     ensures { λ r. ⌜ Ran (quadraticL k f1 f2) k cell (now (out .entry)) (now (out .exit)) r ⌝ }
 {
     let count = least(out.len(), k - cell);
-    let twice = 2 * f2 % k;
+    let twice = twice_of(k, f2);
     let mut at = Spot::new(k, f1, f2, cell);
     let mut i = 0;
     while i < count {
@@ -63,7 +71,7 @@ fn place_of(k: usize, f1: usize, f2: usize, a: usize) -> usize
     requires { ⌜ Whole k f1 f2 ⌝ }
     ensures { λ r. ⌜ r ≡ quadraticM k f1 f2 a ⌝ }
 {
-    let twice = 2 * f2 % k;
+    let twice = twice_of(k, f2);
     let mut at = Spot::new(k, f1, f2, 0);
     let mut t = 0;
     while t < k {

@@ -13,8 +13,11 @@ fn address(k: usize, f1: usize, f2: usize, t: usize) -> usize {
     rest(times(rest(plus(f1, rest(times(f2, t), k)), k), t), k)
 }
 
-// The same with t for t²: wrong on purpose.
-fn straight(k: usize, f1: usize, f2: usize, t: usize) -> usize {
+// The same; or with t for t², which is wrong on purpose.
+fn address_by(squared: bool, k: usize, f1: usize, f2: usize, t: usize) -> usize {
+    if squared {
+        return address(k, f1, f2, t);
+    }
     rest(times(rest(plus(f1, f2), k), t), k)
 }
 
@@ -24,8 +27,7 @@ fn list_by(set: Set, squared: bool, list: &mut [u16]) -> Whole {
     let f2 = set.factors.second as usize;
     let mut t = 0;
     while t < k {
-        let a = if squared { address(k, f1, f2, t) } else { straight(k, f1, f2, t) };
-        put(list, t, a);
+        put(list, t, address_by(squared, k, f1, f2, t));
         put(list, plus(ENDS, t), plus(t, 1));
         t += 1;
     }

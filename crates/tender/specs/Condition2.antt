@@ -3,7 +3,7 @@
 -- over the definitions that the public contracts cite; its proof is a citation. (Symbols of a width are in Symbols.antt, the DVB stream in Stream.antt.)
 use Prim.Native.Nat.{ℕ, _*_, _≤_, _<_}
 use mathlib.Core.List.{List, List·Memᴰ, map}
-use mathlib.Core.Logic.{_↔_, _≢_, _⊎_, inl, inr}
+use mathlib.Core.Logic.{_↔_, _⊎_, inl, inr}
 use mathlib.Core.Path.{_≡_, refl, ap}
 use native.Mathlib.Omega.{arith}
 use lib.ListN.{length, getD}
@@ -15,7 +15,7 @@ use Rattle.laws.specs.Told.{NoneTrue}
 use Rattle.laws.specs.Walk.{Rule}
 use Rattle.sets.specs.declared.Set.{Set}
 use Rattle.sets.specs.Set.{rowsOf, rotationOf, groupOf}
-use Rattle.profiles.specs.Profiles.{ofdm, ofdma, wlan, bench, turbo, ht20, ht40}
+use Rattle.profiles.specs.Profiles.{ofdm, ofdma, wlan, bench, turbo, ht20, ht40, lte, lteSizes}
 use Rattle.sizes.specs.Listed.{length-turbo}
 use Rattle.sets.specs.Listed.{entryOf, setsOf, listedSets, sets-of}
 use Rattle.sets.specs.Beside.{besideSentences}
@@ -31,14 +31,16 @@ use Rattle.families.specs.Rules.{ruleIn, rule-is, spatial-is}
 use Rattle.families.specs.Rules as rules
 use Rattle.walks.specs.Lists as lists
 use Rattle.walks.specs.Answer.{walkedOf, walkValues, foundOf}
+use Rattle.walks.specs.Refusals.{NotWalked}
 use Rattle.walks.specs.Served.{walk-served, address-served, walkable-listed}
 use Rattle.tables.specs.Answer.{movedOf, blind-answer}
 use Rattle.tables.specs.Passed.{block-served}
 use Rattle.blocks.specs.Answer.{moved}
 use Rattle.blocks.specs.Laws as moves
 
--- a set is listed: its size, which is its profile, bits and N, with its stream, stands in the table, document 01's and request 4's, counted out set
--- by set, and no sentence of what a set must have beside that holds. (Crate sets, specs/Listed.antt and specs/Beside.antt: it need have nothing)
+-- a set is listed: its size, which is its profile, bits and N, with its stream, stands in the table, document 01's and that of requests 4 and 6, counted
+-- out set by set, and no sentence of what a set must have beside that holds. (Crate sets, specs/Listed.antt and specs/Beside.antt: of profile 8 that either
+-- of f1 and f2 is 0 or not below K, and that two positions share an address; of the others none. Lte.antt says it of profile 8 in one piece)
 abbrev pub Listed : Set → Type 0
 Listed s = List·Memᴰ (entryOf s) listedSets × NoneTrue (besideSentences s)
 
@@ -46,13 +48,16 @@ Listed s = List·Memᴰ (entryOf s) listedSets × NoneTrue (besideSentences s)
 pub admits : (s : Set) → Listed s ↔ (verdictOf s ≡ done tt)
 admits s = admitted.admits s
 
--- .. has 20, 11, 4, 272 and 5,075 sets for profiles 1 to 5, and 16 each for 6 and 7, which is four streams for each of eight sizes, 32 entries
+-- .. has 20, 11, 4, 272 and 5,075 sets for profiles 1 to 5, 16 each for 6 and 7, which is four streams for each of eight sizes, 32 entries, and 188 for 8,
+-- its sizes
 pub listed-counts : (length (setsOf ofdm) ≡ 20) × (length (setsOf ofdma) ≡ 11) × (length (setsOf wlan) ≡ 4) × (length (setsOf bench) ≡ 272)
-    × (length (setsOf turbo) ≡ 5075) × (length (setsOf ht20) ≡ 16) × (length (setsOf ht40) ≡ 16)
-listed-counts = (refl, refl, refl, refl, sets-of turbo length-turbo refl, refl, refl)
+    × (length (setsOf turbo) ≡ 5075) × (length (setsOf ht20) ≡ 16) × (length (setsOf ht40) ≡ 16) × (length (setsOf lte) ≡ 188)
+unfolding lteSizes
+listed-counts = (refl, refl, refl, refl, sets-of turbo length-turbo refl, refl, refl, refl)
 
--- and accepted means served: of a listed set a walk is done from every cell up to the total, with any room (for M, profile 5 apart) ..
-pub served-walk : (way : Way) (w : Walk) (room : ℕ) → Listed (w .set) → (way ≡ Deinterleaver → w .set .profile ≢ 5) → w .cell ≤ ruleIn way (w .set) .total
+-- and accepted means served: of a listed set a walk is done from every cell up to the total, with any room (for M, profiles 5
+-- and 8 apart) ..
+pub served-walk : (way : Way) (w : Walk) (room : ℕ) → Listed (w .set) → (way ≡ Deinterleaver → NotWalked (w .set) → ⊥) → w .cell ≤ ruleIn way (w .set) .total
     → walkedOf way w room ≡ done (walkValues way w room)
 served-walk way w room l n h = walk-served way w room (walkable-listed way (w .set) (admits (w .set) .0 l) n) h
 
@@ -83,14 +88,14 @@ formulas-turbo s e =
     let q = rule-is s (five-turbo s e) in
     (ap (λ (r : Rule). r .l) q, ap (λ (r : Rule). r .m) q)
 
--- .. and for profiles 6 and 7 the three steps of IEEE 802.11n, with d 13 and r 11 at 20 MHz ..
+-- .. for profiles 6 and 7 the three steps of IEEE 802.11n, with d 13 and r 11 at 20 MHz ..
 pub formulas-ht20 : (s : Set) → s .profile ≡ 6
     → (L s ≡ spatialL 13 (s .n) (groupOf s) (s .bits) 11 (s .stream)) × (M s ≡ spatialM 13 (s .n) (groupOf s) (s .bits) 11 (s .stream))
 formulas-ht20 s e =
     let q = spatial-is s 13 11 (spatial-profile s (inl e)) (ht20-numbers s e) in
     (ap (λ (r : Rule). r .l) q, ap (λ (r : Rule). r .m) q)
 
--- .. and d 18 and r 29 at 40 MHz
+-- .. and d 18 and r 29 at 40 MHz (profile 8: Lte.antt)
 pub formulas-ht40 : (s : Set) → s .profile ≡ 7
     → (L s ≡ spatialL 18 (s .n) (groupOf s) (s .bits) 29 (s .stream)) × (M s ≡ spatialM 18 (s .n) (groupOf s) (s .bits) 29 (s .stream))
 formulas-ht40 s e =

@@ -16,12 +16,13 @@ use Rattle.laws.specs.Ends.{EndsAt, ends-once}
 use Rattle.laws.specs.Pieces as pieces
 use Rattle.laws.specs.Walk.{Rule}
 use Rattle.sets.specs.declared.Set.{Set}
-use Rattle.sets.specs.Set.{rowsOf, rotationOf, groupOf}
-use Rattle.sets.specs.Numbered.{carrier-profile, five-turbo, spatial-profile}
+use Rattle.sets.specs.Set.{rowsOf, rotationOf, groupOf, f1, f2}
+use Rattle.sets.specs.Numbered.{carrier-profile, five-turbo, spatial-profile, eight-quadratic}
 use Rattle.carrier.specs.Formula.{carrierL, carrierM}
 use Rattle.carrier.specs.Third.{spatialL, spatialM}
 use Rattle.wcdma_shape.specs.Rectangle.{cells}
 use Rattle.wcdma.specs.Turbo.{address}
+use Rattle.quadratic.specs.Formula.{quadraticL}
 use Rattle.walks.specs.declared.Walk.{Walk}
 use Rattle.families.specs.Rules.{ruleIn, rule-is}
 use Rattle.walks.specs.Answer.{Values, walkedOf, walkList, walkCells, walkPadding, walkNext, walkValues}
@@ -60,6 +61,13 @@ pub rule-spatial : (s : Set) → (s .profile ≡ 6) ⊎ (s .profile ≡ 7)
     × (ruleIn Interleaver s .address ≡ spatialL (rowsOf s) (s .n) (groupOf s) (s .bits) (rotationOf s) (s .stream))
 rule-spatial s h =
     let e = rule-is s (spatial-profile s h) in
+    (ap (λ (r : Rule). r .total) e, ap (λ (r : Rule). r .address) e)
+
+-- .. profile 8: K cells, and the address of a cell is (f1·t + f2·t²) mod K ..
+pub rule-lte : (s : Set) → s .profile ≡ 8
+    → (ruleIn Interleaver s .total ≡ s .n) × (ruleIn Interleaver s .address ≡ quadraticL (s .n) (f1 s) (f2 s))
+rule-lte s p =
+    let e = rule-is s (eight-quadratic s p) in
     (ap (λ (r : Rule). r .total) e, ap (λ (r : Rule). r .address) e)
 
 -- .. M: N cells, the input positions, and the address of a cell is the formula's, profiles 1 to 4 ..

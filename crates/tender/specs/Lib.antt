@@ -4,6 +4,7 @@ pub mod One
 pub mod Symbols
 pub mod Condition3
 pub mod Turbo
+pub mod Lte
 pub mod Stream
 pub mod Burst
 pub mod Combine

@@ -1,4 +1,4 @@
--- The starred cases of document 01, "Checked by hand", K 40 as change request 1 mends it and K 200 beside it, in one proved table,
+-- The starred cases of document 01, "Checked by hand", K 40 as change request 1 mends it and K 200 beside it, and the one of request 6, in one proved table,
 -- over the definitions that the public contracts cite, and a second table of ours for what these leave out. A row says a question, a set, an
 -- argument and the numbers that are expected. `refl` at its end: the definitions compute to those numbers.
 use Prim.Native.Nat.{ℕ, _-_, _≤_}
@@ -23,6 +23,8 @@ use Rattle.wcdma_setup.specs.Numbers.{noDivisor, isPrime, passes, nextIn, nextQ
 use Rattle.wcdma_shape.specs.Orders.{rowOrders, whichOrder, orderOf, rowAt}
 use Rattle.wcdma.specs.Turbo.{entry, full, column, origin, address, addresses, turboM, padCells}
 use Rattle.wcdma.specs.Pads.{cells-are}
+use Rattle.quadratic.specs.Formula.{quadraticL, quadraticM}
+use Rattle.lte.specs.Factors.{two, lteWith}
 use Rattle.families.specs.Rules.{ruleOf}
 use Rattle.families.specs.Rules as rules
 use Rattle.walks.specs.Lists.{listL}
@@ -66,7 +68,7 @@ pub record Row : Type 0 where
 abbrev pub row : (q : Question) (s : Set) (x : ℕ) (e : List ℕ) → answer q s x ≡ e → Row
 row q s x e h = record { question = q; set = s; argument = x; expected = e; holds = h }
 
--- a set of profile 1 to 7; b: bits, n: N, k: K, i: the stream
+-- a set of profile 1 to 8; b: bits, n: N, k: K, i: the stream, a and b of profile 8: f1 and f2
 abbrev pub ofdm : ℕ → ℕ → Set
 ofdm b n = record { profile = 1; bits = b; n = n; stream = 1; factors = noFactors }
 
@@ -88,6 +90,9 @@ ht20 b n i = record { profile = 6; bits = b; n = n; stream = i; factors = noFact
 abbrev pub ht40 : ℕ → ℕ → ℕ → Set
 ht40 b n i = record { profile = 7; bits = b; n = n; stream = i; factors = noFactors }
 
+abbrev pub lte : ℕ → ℕ → ℕ → Set
+lte k a b = lteWith k (two a b)
+
 -- the padding by cells = K + padding, for a K with too many cells to count them one by one here
 pub counted : (k : ℕ) → k ≤ 5114 → answer padded (turbo k) 0 ≡ (cells k - k) ∷ []
 unfolding answer
@@ -95,7 +100,7 @@ counted k h = let e : padCells k ≡ cells k - k = omega (arith, cells-are k h) 
 
 -- the table, in 01's order
 unfoldable pub stars : List Row
-unfolding answer padCells padding listL ruleOf familyOf entryBy keep numbersOf groupOf firstStep secondStep carrierM backStep lastStep carrierL rows primes firstPrime prime colsOf cols cells power firstOne generates rootFrom root gcdIn gcd noDivisor isPrime passes nextIn nextQ qOf rowOrders whichOrder orderOf rowAt entry full column origin address
+unfolding answer padCells padding listL ruleOf familyOf entryBy keep numbersOf groupOf firstStep secondStep carrierM backStep lastStep carrierL rows primes firstPrime prime colsOf cols cells power firstOne generates rootFrom root gcdIn gcd noDivisor isPrime passes nextIn nextQ qOf rowOrders whichOrder orderOf rowAt entry full column origin address quadraticL
 stars =
     -- Profile 3, bits 4, N 192: M of 0, 1, 16, 17, 191
     row M (wlan 4 192) 0 (0 ∷ []) refl
@@ -147,11 +152,13 @@ stars =
     ∷ row p (turbo 5114) 0 (257 ∷ []) refl
     ∷ row C (turbo 5114) 0 (256 ∷ []) refl
     ∷ row padded (turbo 5114) 0 (6 ∷ []) (counted 5114 (omega arith))
+    -- Change request 6: profile 8, K 40 with 3 and 10 begins ..
+    ∷ row begins (lte 40 3 10) 5 (0 ∷ 13 ∷ 6 ∷ 19 ∷ 12 ∷ []) refl
     ∷ []
 
 -- cases of ours, in the same form: their numbers were computed from the documents by another program than the definitions
 unfoldable pub ours : List Row
-unfolding answer padCells padding listL ruleOf familyOf entryBy keep numbersOf groupOf firstStep secondStep carrierM backStep lastStep carrierL rows primes firstPrime prime colsOf cols cells power firstOne generates rootFrom root gcdIn gcd noDivisor isPrime passes nextIn nextQ qOf rowOrders whichOrder orderOf rowAt entry full column origin address addresses turboM position turn thirdStep spatialM thirdBack spatialL
+unfolding answer padCells padding listL ruleOf familyOf entryBy keep numbersOf groupOf firstStep secondStep carrierM backStep lastStep carrierL rows primes firstPrime prime colsOf cols cells power firstOne generates rootFrom root gcdIn gcd noDivisor isPrime passes nextIn nextQ qOf rowOrders whichOrder orderOf rowAt entry full column origin address addresses turboM position turn thirdStep spatialM thirdBack spatialL quadraticL quadraticM
 ours =
     -- Profile 1, d 12: bits 6, N 1,152, where s is 3; bits 4, N 768, where s is 2
     row M (ofdm 6 1152) 1 (98 ∷ []) refl
@@ -181,6 +188,12 @@ ours =
     ∷ row M (ht40 6 648 4) 647 (123 ∷ []) refl
     ∷ row L (ht40 6 648 4) 647 (302 ∷ []) refl
     ∷ row M (ht40 6 648 1) 1 (38 ∷ []) refl
+    -- Profile 8: K 40 with 3 and 10, K 6,144 with 263 and 480
+    ∷ row ends (lte 40 3 10) 3 (1 ∷ 34 ∷ 7 ∷ []) refl
+    ∷ row M (lte 40 3 10) 13 (1 ∷ []) refl
+    ∷ row M (lte 40 3 10) 7 (39 ∷ []) refl
+    ∷ row L (lte 6144 263 480) 1000 (4952 ∷ []) refl
+    ∷ row L (lte 6144 263 480) 6143 (217 ∷ []) refl
     -- M of profile 5
     ∷ row M (turbo 40) 35 (5 ∷ []) refl
     -- K 201: the second row order of twenty; C = p. The first twenty addresses, in 22 cells

@@ -77,7 +77,7 @@ set-numbered : (s : Set) → Numbered (setLines s)
 unfolding setLines
 set-numbered s =
     numbered-join (sizeLines (sizeOf s)) (streamLines s ++ besideLines s) (positive 0, (positive 1, (positive 2, tt)))
-    (numbered-join (streamLines s) (besideLines s) (positive 15, tt) tt)
+    (numbered-join (streamLines s) (besideLines s) (positive 15, tt) (positive 10, (positive 9, tt)))
 
 one-numbered : (s : Set) (x : ℕ) → Numbered (oneLines s x)
 unfolding oneLines

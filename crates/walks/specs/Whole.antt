@@ -1,7 +1,7 @@
 -- What a walk of an accepted set writes, from any cell and with any room: L, or M, on from there. And a table that a walk for L from cell 0 filled.
 use Prim.Native.Nat.{ℕ, min, _-_, _≤_, _<_}
 use mathlib.Core.List.{List}
-use mathlib.Core.Path.{_≡_, sym, ap, _∙_}
+use mathlib.Core.Path.{_≡_, sym, ap, subst, _∙_}
 use native.Mathlib.Omega.{arith}
 use lib.ListN.{length}
 use borrow.Author.Tests.{le-ltb, lt-ltb}
@@ -11,7 +11,7 @@ use Rattle.laws.specs.Run.{run, length-run}
 use Rattle.laws.specs.Loop.{by}
 use Rattle.laws.specs.Once.{inside}
 use Rattle.laws.specs.Bare.{keep-bare}
-use Rattle.laws.specs.Walk.{passedBy, leafLines}
+use Rattle.laws.specs.Walk.{Rule, bareRule, passedBy, leafLines}
 use Rattle.laws.specs.Walk as along
 use Rattle.sets.specs.declared.Set.{Set}
 use Rattle.sets.specs.Verdict.{setLines, refusal, verdictOf}
@@ -48,15 +48,25 @@ module _ (w : Walk) (room : ℕ) (e : Accepted (w .set)) where
       → walkList Interleaver w room ≡ run (L (w .set)) (behind w) (min room (w .set .n - behind w))
   walk-l-is h = along.walk-from (lawful (w .set) e) (w .cell) room h
 
-  -- M has no padding, so what is behind a cell are the cells
-  all-behind : w .cell ≤ w .set .n → passedBy (w .set .n) (ruleIn Deinterleaver (w .set)) (w .cell) ≡ w .cell
+  -- without padding, what is behind a cell are the cells
+  all-behind : (f m : ℕ → ℕ) → ((x : ℕ) → x < w .set .n → f x < w .set .n) → w .cell ≤ w .set .n
+      → passedBy (w .set .n) (bareRule (w .set .n) f m) (w .cell) ≡ w .cell
   unfolding passedBy
-  all-behind h =
-      ap length (keep-bare (M (w .set)) (inside (w .set .n)) 0 (w .cell)
-      (λ x l o. lt-ltb (M (w .set) x) (w .set .n) (lawful (w .set) e .perm .m-below x (omega arith))))
-      ∙ length-run (M (w .set)) 0 (w .cell)
+  all-behind f m below h =
+      ap length (keep-bare f (inside (w .set .n)) 0 (w .cell) (λ x l o. lt-ltb (f x) (w .set .n) (below x (omega arith))))
+      ∙ length-run f 0 (w .cell)
+
+  -- a family without padding, and M
+  pub walk-bare-is : {l m : ℕ → ℕ} → ruleOf (w .set) ≡ bareRule (w .set .n) l m → w .cell ≤ w .set .n
+      → walkList Interleaver w room ≡ run (L (w .set)) (w .cell) (min room (w .set .n - w .cell))
+  walk-bare-is {l} {m} q h =
+      let below : (x : ℕ) → x < w .set .n → l x < w .set .n =
+      λ x o. subst (λ (r : Rule). r .l x < w .set .n) q (lawful (w .set) e .perm .l-below x o) in
+      walk-l-is (subst (λ (r : Rule). w .cell ≤ r .total) (sym q) h)
+      ∙ ap (λ (c : ℕ). run (L (w .set)) c (min room (w .set .n - c)))
+      (ap (λ (r : Rule). passedBy (w .set .n) r (w .cell)) q ∙ all-behind l m below h)
 
   pub walk-m-is : w .cell ≤ w .set .n → walkList Deinterleaver w room ≡ run (M (w .set)) (w .cell) (min room (w .set .n - w .cell))
   walk-m-is h =
       along.walk-from (lawful-way Deinterleaver (w .set) e) (w .cell) room h
-      ∙ ap (λ (c : ℕ). run (M (w .set)) c (min room (w .set .n - c))) (all-behind h)
+      ∙ ap (λ (c : ℕ). run (M (w .set)) c (min room (w .set .n - c))) (all-behind (M (w .set)) (L (w .set)) (lawful (w .set) e .perm .m-below) h)

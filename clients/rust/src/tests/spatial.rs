@@ -76,10 +76,10 @@ fn blocks_go_by_the_formula() {
     }
 }
 
-const CALLS: usize = 17;
+pub const CALLS: usize = 17;
 
 // What every call on a set says, buffers being n long; each has a fault of its own if there are to be faults. Nothing lent is changed.
-fn said(set: Set, n: usize, faults: bool) -> [Result<(), Refusal>; CALLS] {
+pub fn said(set: Set, n: usize, faults: bool) -> [Result<(), Refusal>; CALLS] {
     let (less, place, count, high) = if faults { (n - 1, u32::MAX, u16::MAX, 2) } else { (n, 0, 1, 1) };
     let (bytes, fine, soft) = (vec![1; 2 * n], vec![1.0; n], vec![if faults { f32::NAN } else { 1.0 }; n]);
     let (mut out, mut out_soft, mut list) = (vec![9; 2 * n], vec![0.5; n], [7; 3]);
@@ -115,16 +115,16 @@ fn said(set: Set, n: usize, faults: bool) -> [Result<(), Refusal>; CALLS] {
 fn a_stream_is_tested_after_the_size() {
     use Refusal::*;
     let listed = [(1, 6, 72), (2, 2, 96), (3, 4, 192), (4, 4, 64), (5, 1, 40), (6, 1, 52), (7, 6, 648)].map(|(p, b, n)| Set::new(p, b, n).unwrap());
-    for set in listed {
-        // the walk for M refuses profile 5 with 1
-        let (n, walk_m) = (set.size(), |refusal| if set.profile == 5 { Profile } else { refusal });
+    for set in listed.into_iter().chain(Set::lte(40, 3, 10)) {
+        // the walk for M refuses profiles 5 and 8 with 1
+        let (n, walk_m) = (set.size(), |refusal| if matches!(set.profile, 5 | 8) { Profile } else { refusal });
         let blocks = [Input, Output, Output, Input, Input, Output];
         let sums = [Count, Finite, Presence, Output, Input, Output, Position];
         let own = [&[Position, Position, Record, walk_m(Record)], &blocks[..], &sums[..]].concat();
         assert_eq!(said(set, n, true).to_vec(), own.into_iter().map(Err).collect::<Vec<_>>());
         for stream in [0, 2, 3, 4, 5, 257, 65_537, u32::MAX] {
             let set = set.with_stream(stream);
-            if set.profile >= 6 && (1..=4).contains(&stream) {
+            if matches!(set.profile, 6 | 7) && (1..=4).contains(&stream) {
                 assert_eq!(set.test(), Ok(()));
                 continue;
             }

@@ -1,21 +1,9 @@
--- `flat::set_of` reads the four numbers.
+-- `flat::set_of` reads the eight numbers.
 use mathlib.Core.Path.{refl}
 use Rattle.flat.specs.Flat.{setOf}
 use borrow.Author.Needs.{needs}
 use Rattle.flat.proofs.set_of.Statement.{statement}
 use Rattle.flat.proofs.set_of.Tie as tie
-
-element-copy-out-t4 : tie.Need-element-copy-out-t4
-element-copy-out-t4 c = search needs
-
-element-copy-out-t7 : tie.Need-element-copy-out-t7
-element-copy-out-t7 c = search needs
-
-element-copy-out-t10 : tie.Need-element-copy-out-t10
-element-copy-out-t10 c = search needs
-
-element-copy-out-t13 : tie.Need-element-copy-out-t13
-element-copy-out-t13 c = search needs
 
 returns : tie.Need-returns
 unfolding setOf
@@ -23,4 +11,6 @@ returns c = refl
 
 pub set-of-spec : {M : Type 1} → statement M
 set-of-spec =
-    tie.close (tie.spec element-copy-out-t4 element-copy-out-t7 element-copy-out-t10 element-copy-out-t13 returns)
+    tie.close
+    (tie.spec (λ c. search needs) (λ c. search needs) (λ c. search needs) (λ c. search needs) (λ c. search needs) (λ c. search needs)
+    (λ c. search needs) (λ c. search needs) returns)

@@ -1,6 +1,6 @@
 -- `quadratic_walk::place_of` is M: the walk stops at the address. The measure is what is left of the block.
 use Prim.Native.Nat.{_-_}
-use mathlib.Core.Path.{refl, sym, _∙_}
+use mathlib.Core.Path.{sym, _∙_}
 use native.Mathlib.Omega.{arith}
 use Rattle.laws.specs.Seek.{seek-first, seek-here, seek-next, seek-end}
 use Rattle.quadratic.specs.Formula.{quadraticM}
@@ -14,17 +14,14 @@ Inv-loop k f1 f2 a twice at₀ t₀ at t = Looking k f1 f2 a twice at t
 abbrev μ-loop : tie.MeasureT-loop
 μ-loop k f1 f2 a twice at₀ t₀ at t = k - t
 
-mul-twice : tie.Need-mul-twice Inv-loop μ-loop
-mul-twice c = omega (arith, c .pre .second-in, c .pre .small)
-
-rem-twice : tie.Need-rem-twice Inv-loop μ-loop
-rem-twice c = c .pre .size
+twice-of-requires : tie.Need-twice-of-requires Inv-loop μ-loop
+twice-of-requires c κs = (c .pre .second-in, c .pre .small)
 
 new-requires : tie.Need-new-requires Inv-loop μ-loop
-new-requires c κs = record { whole = c .pre; cell-in = omega arith }
+new-requires c κs = record { whole = c .before .pre; cell-in = omega arith }
 
 loop-holds : tie.Need-loop-holds Inv-loop μ-loop
-loop-holds c = seek-first (record { whole = c .before .pre; twice-is = refl }) (c .new .ensures)
+loop-holds c = seek-first (record { whole = c .before .before .pre; twice-is = c .before .twice-of .ensures }) (c .new .ensures)
 
 returns : tie.Need-returns Inv-loop μ-loop
 unfolding quadraticM
@@ -54,4 +51,4 @@ returns-2 c = seek-end (c .before .loop .inv) (c .loop-test .left)
 pub place-of-spec : {M : Type 1} → statement M
 place-of-spec =
     tie.close
-    (tie.spec Inv-loop μ-loop mul-twice rem-twice new-requires loop-holds returns next-requires add-t loop-less loop-again returns-2)
+    (tie.spec Inv-loop μ-loop twice-of-requires new-requires loop-holds returns next-requires add-t loop-less loop-again returns-2)

@@ -1,6 +1,5 @@
 -- `quadratic_walk::write` writes L from any cell on, one position after another. The measure is what is left to write.
 use Prim.Native.Nat.{_-_}
-use mathlib.Core.Path.{refl}
 use native.Mathlib.Omega.{arith}
 use Rattle.laws.specs.Stepped.{stepped-first, long, room, stepped-next, stepped-all}
 use Rattle.quadratic_walk.specs.Spot.{Walking, ready-in, value-small}
@@ -19,19 +18,17 @@ sub-least c = c .before .pre .cell-in
 least-requires : tie.Need-least-requires Inv-loop μ-loop
 least-requires c κs = tt
 
-mul-twice : tie.Need-mul-twice Inv-loop μ-loop
-mul-twice c = let w = c .before .before .pre .whole in omega (arith, w .second-in, w .small)
-
-rem-twice : tie.Need-rem-twice Inv-loop μ-loop
-rem-twice c = c .before .before .pre .whole .size
+twice-of-requires : tie.Need-twice-of-requires Inv-loop μ-loop
+twice-of-requires c κs = let w = c .before .before .pre .whole in (w .second-in, w .small)
 
 new-requires : tie.Need-new-requires Inv-loop μ-loop
-new-requires c κs = c .before .before .pre
+new-requires c κs = c .before .before .before .pre
 
 loop-holds : tie.Need-loop-holds Inv-loop μ-loop
 loop-holds c =
-    let e = c .before in
-    stepped-first (record { whole = e .before .before .pre .whole; twice-is = refl }) (e .least .ensures) (c .new .ensures)
+    let t = c .before in
+    let e = t .before in
+    stepped-first (record { whole = e .before .before .pre .whole; twice-is = t .twice-of .ensures }) (e .least .ensures) (c .new .ensures)
 
 cast-out : tie.Need-cast-out Inv-loop μ-loop
 cast-out c = let g = c .before .before .loop .inv in omega (arith, value-small (g .kept) (g .state))
@@ -67,5 +64,5 @@ returns c = stepped-all (c .before .loop .inv) (c .loop-test .left)
 pub write-spec : {M : Type 1} → statement M
 write-spec =
     tie.close
-    (tie.spec Inv-loop μ-loop sub-least least-requires mul-twice rem-twice new-requires loop-holds cast-out mul-out slice-write-out next-requires
+    (tie.spec Inv-loop μ-loop sub-least least-requires twice-of-requires new-requires loop-holds cast-out mul-out slice-write-out next-requires
     add-i loop-less loop-again same-length returns)
