@@ -3,17 +3,27 @@ mod table; // table.rt: the numbers of the table
 
 ghost use mathlib.Core.Path.{_≡_};
 ghost use Prim.Native.Nat.{_≤_};
+ghost use Rattle.sizes.specs.Size.{size};
+ghost use Rattle.sizes.specs.Tests.{sizeListed};
 ghost use Rattle.lte.specs.Factors.{sayGiven, givenOf, lteSet};
 ghost use Rattle.lte.specs.Table.{placeOf};
+use profiles::step_by;
 use sets::Factors;
 use sets::Refusal;
 use sets::Set;
-use sizes::Size;
 
 // The answer: the factors, of which f1 is the first, f2 the second and the others are 0; or the refusal.
 pub enum Given {
     Of(Factors),
     Refused(Refusal),
+}
+
+// Whether K is listed for profile 8. (The test of a set asks `sizes::size_listed`; asked here too, it would be a function by itself, and each test of a
+// set a call dearer.)
+fn is_listed(k: u32) -> bool
+    ensures { λ r. ⌜ r ≡ sizeListed (size 8 1 k) ⌝ }
+{
+    (40 <= k) & ((k <= 6144) & (k % step_by(k) == 0))
 }
 
 // The place of a listed K in the table.
@@ -50,12 +60,7 @@ fn set_of(k: u32) -> Set
 pub fn factors(k: u32) -> Given
     ensures { λ r. ⌜ sayGiven r ≡ givenOf k ⌝ }
 {
-    let size = Size {
-        profile: 8,
-        bits: 1,
-        n: k,
-    };
-    if !sizes::size_listed(size) {
+    if !is_listed(k) {
         return Given::Refused(sets::refusal_of(set_of(k), 3));
     }
     let i = place_of(k);

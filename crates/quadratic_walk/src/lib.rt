@@ -6,11 +6,13 @@ use laws::Single;
 use residues::least;
 use residues::plus;
 ghost use mathlib.Core.Path.{_≡_};
-ghost use Prim.Native.Nat.{ℕ, _+_, _*_, _%_, _<_};
+ghost use mathlib.Core.List.{List};
+ghost use Prim.Native.Nat.{ℕ, _+_, _*_, _%_, _≤_, _<_};
+ghost use lib.ListN.{length};
 ghost use Rattle.laws.specs.Lanes.{Ran};
 ghost use Rattle.laws.specs.Walk.{LeafOf, SingleOf};
 ghost use Rattle.quadratic.specs.Formula.{quadraticL, quadraticM, quadraticRule};
-ghost use Rattle.quadratic_walk.specs.Spot.{Whole, Block, SpotAt, SpotIn};
+ghost use Rattle.quadratic_walk.specs.Spot.{Whole, Block, SpotAt, SpotIn, Walking, OneOn};
 
 // Where a walk stands: the address, and how much more the next one is, modulo K.
 struct Spot {
@@ -33,7 +35,8 @@ impl Spot {
     // One position on: the address by the difference, and the difference by 2·f2.
     fn next(self, k: usize, twice: usize) -> Self
         requires { ⌜ SpotIn k twice self ⌝ }
-        ensures { λ r. ⌜ ((f1 f2 t : ℕ) → twice ≡ 2 * f2 % k → SpotAt k f1 f2 t self → SpotAt k f1 f2 (t + 1) r) ⌝ }
+        ensures { λ r. ⌜ OneOn k twice self r ⌝ }
+        ensures { λ r. ⌜ SpotIn k twice r ⌝ }
     {
         let value = plus(k, self.value, self.delta);
         let delta = plus(k, self.delta, twice);
@@ -49,7 +52,43 @@ fn twice_of(k: usize, f2: usize) -> usize
     2 * f2 % k
 }
 
-// Writes L from a cell on, as far as there is room and cells; gives back how many.
+// Writes the addresses of two positions, from one on, at out[i] and out[i + 1]; gives back where it then stands.
+fn write_two(k: usize, twice: usize, start: Spot, out: &mut [u16], i: usize) -> Spot
+    requires { ⌜ SpotIn k twice start × (i + 2 ≤ length (now out)) ⌝ }
+    ensures { λ r. ⌜ ((f1 f2 cell count : ℕ) (old : List ℕ) → i + 2 ≤ count
+        → Walking k f1 f2 cell count twice old (now (out .entry)) start i
+        → Walking k f1 f2 cell count twice old (now (out .exit)) r (i + 2)) ⌝ }
+{
+    out[i] = start.value as u16;
+    let second = start.next(k, twice);
+    out[i + 1] = second.value as u16;
+    second.next(k, twice)
+}
+
+// Writes on, one address at a time, up to out[count - 1]; gives back where it then stands.
+fn write_rest(
+    k: usize,
+    twice: usize,
+    start: Spot,
+    out: &mut [u16],
+    from: usize,
+    count: usize,
+) -> Spot
+    requires { ⌜ SpotIn k twice start × (from ≤ count) × (count ≤ length (now out)) ⌝ }
+    ensures { λ r. ⌜ ((f1 f2 cell : ℕ) (old : List ℕ) → Walking k f1 f2 cell count twice old (now (out .entry)) start from
+        → Walking k f1 f2 cell count twice old (now (out .exit)) r count) ⌝ }
+{
+    let mut at = start;
+    let mut i = from;
+    while i < count {
+        out[i] = at.value as u16;
+        at = at.next(k, twice);
+        i += 1;
+    }
+    at
+}
+
+// Writes L from a cell on, as far as there is room and cells, four addresses at a time and then the rest; gives back how many.
 fn write(k: usize, f1: usize, f2: usize, cell: usize, out: &mut [u16]) -> usize
     requires { ⌜ Block k f1 f2 cell ⌝ }
     ensures { λ r. ⌜ Ran (quadraticL k f1 f2) k cell (now (out .entry)) (now (out .exit)) r ⌝ }
@@ -58,11 +97,15 @@ fn write(k: usize, f1: usize, f2: usize, cell: usize, out: &mut [u16]) -> usize
     let twice = twice_of(k, f2);
     let mut at = Spot::new(k, f1, f2, cell);
     let mut i = 0;
-    while i < count {
-        out[i] = at.value as u16;
-        at = at.next(k, twice);
-        i += 1;
+    let mut fours = count / 4;
+    while fours > 0 {
+        at = write_two(k, twice, at, out, i);
+        i += 2;
+        at = write_two(k, twice, at, out, i);
+        i += 2;
+        fours -= 1;
     }
+    write_rest(k, twice, at, out, i, count);
     count
 }
 

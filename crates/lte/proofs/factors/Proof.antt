@@ -14,7 +14,7 @@ use Rattle.lte.proofs.factors.Tie as tie
 
 -- past the test of the size
 row-of : (c : tie.Else1) → InTable (c .before .before .args .k)
-row-of c = in-table (passes-listed _ (sym (c .before .size-listed .ensures) ∙ not-false _ (c .if1 .left)))
+row-of c = in-table (passes-listed _ (sym (c .before .is-listed .ensures) ∙ not-false _ (c .if1 .left)))
 
 place-in : (c : tie.After-place-of) → c .place-of .result < 188
 place-in c = rw (c .place-of .ensures) (row-of (c .before) .place-in)
@@ -25,7 +25,7 @@ returns c =
     let s = c .before in
     let i = s .before in
     ap refused (c .refusal-of .ensures ∙ ap (λ (x : Set). refusal x 3) (s .set-of .ensures))
-    ∙ simp (sym (i .before .size-listed .ensures) ∙ not-true _ (i .if1 .taken))
+    ∙ simp (sym (i .before .is-listed .ensures) ∙ not-true _ (i .if1 .taken))
 
 returns-2 : tie.Need-returns-2
 unfolding givenOf
@@ -37,7 +37,7 @@ returns-2 c =
     ap done (ap₂ two
     (f .first-at .ensures ∙ ap (λ (x : ℕ). getD firsts x 0) (p .place-of .ensures) ∙ r .first-is)
     (c .second-at .ensures ∙ ap (λ (x : ℕ). getD seconds x 0) (p .place-of .ensures) ∙ r .second-is))
-    ∙ simp (sym (i .before .size-listed .ensures) ∙ not-false _ (i .if1 .left))
+    ∙ simp (sym (i .before .is-listed .ensures) ∙ not-false _ (i .if1 .left))
 
 pub factors-spec : {M : Type 1} → statement M
 factors-spec =

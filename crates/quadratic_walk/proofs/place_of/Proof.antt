@@ -42,7 +42,7 @@ loop-again : tie.Need-loop-again Inv-loop μ-loop
 loop-again c =
     let g = c .before .before .before .before .loop .inv in
     seek-next g (c .before .before .before .loop-test .taken) (λ e. c .before .if1 .left (g .state .value-is ∙ e))
-    (c .next .ensures _ _ _ (g .kept .twice-is) (g .state))
+    (c .next .ensures .0 _ _ _ (g .kept .twice-is) (g .state))
 
 returns-2 : tie.Need-returns-2 Inv-loop μ-loop
 unfolding quadraticM

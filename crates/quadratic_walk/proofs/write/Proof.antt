@@ -1,16 +1,18 @@
--- `quadratic_walk::write` writes L from any cell on, one position after another. The measure is what is left to write.
-use Prim.Native.Nat.{_-_}
+-- `quadratic_walk::write` writes L from any cell on, four positions after another, and then the rest. The measure is how many fours are left.
+use Prim.Native.Nat.{_+_, _*_, _≤_}
+use native.Mathlib.Nat.{div-add-mod, le-refl}
 use native.Mathlib.Omega.{arith}
-use Rattle.laws.specs.Stepped.{stepped-first, long, room, stepped-next, stepped-all}
-use Rattle.quadratic_walk.specs.Spot.{Walking, ready-in, value-small}
+use Rattle.laws.specs.Stepped.{stepped-first, long, room, stepped-all}
+use Rattle.quadratic_walk.specs.Spot.{Walking, ready-in}
 use Rattle.quadratic_walk.proofs.write.Statement.{statement}
 use Rattle.quadratic_walk.proofs.write.Tie as tie
 
 abbrev Inv-loop : tie.InvT-loop
-Inv-loop k f1 f2 cell out₀ count twice at₀ i₀ out at i = Walking k f1 f2 cell count twice out₀ out at i
+Inv-loop k f1 f2 cell out₀ count twice at₀ i₀ fours₀ out at i fours =
+    Walking k f1 f2 cell count twice out₀ out at i × (i + 4 * fours ≤ count)
 
 abbrev μ-loop : tie.MeasureT-loop
-μ-loop k f1 f2 cell out₀ count twice at₀ i₀ out at i = count - i
+μ-loop k f1 f2 cell out₀ count twice at₀ i₀ fours₀ out at i fours = fours
 
 sub-least : tie.Need-sub-least Inv-loop μ-loop
 sub-least c = c .before .pre .cell-in
@@ -27,42 +29,65 @@ new-requires c κs = c .before .before .before .pre
 loop-holds : tie.Need-loop-holds Inv-loop μ-loop
 loop-holds c =
     let t = c .before in
-    let e = t .before in
-    stepped-first (record { whole = e .before .before .pre .whole; twice-is = t .twice-of .ensures }) (e .least .ensures) (c .new .ensures)
+    let e = t .before in (
+      stepped-first (record { whole = e .before .before .pre .whole; twice-is = t .twice-of .ensures }) (e .least .ensures) (c .new .ensures),
+      omega (arith, div-add-mod (e .least .result) 4),
+    )
 
-cast-out : tie.Need-cast-out Inv-loop μ-loop
-cast-out c = let g = c .before .before .loop .inv in omega (arith, value-small (g .kept) (g .state))
-
-mul-out : tie.Need-mul-out Inv-loop μ-loop
-mul-out c = omega (arith, room (c .before .before .loop .inv), c .before .loop-test .taken)
-
-slice-write-out : tie.Need-slice-write-out Inv-loop μ-loop
-slice-write-out c = omega (arith, room (c .before .before .loop .inv), c .before .loop-test .taken)
-
-next-requires : tie.Need-next-requires Inv-loop μ-loop
-next-requires c κs = let g = c .before .before .loop .inv in ready-in (g .kept) (g .state)
+write-two-requires : tie.Need-write-two-requires Inv-loop μ-loop
+write-two-requires c κs =
+    let g = c .before .before .loop .inv in
+    (ready-in (g .0 .kept) (g .0 .state), omega (arith, room (g .0), g .1, c .before .loop-test .taken))
 
 add-i : tie.Need-add-i Inv-loop μ-loop
 add-i c =
-    let g = c .before .before .before .loop .inv in
-    omega (arith, c .before .before .loop-test .taken, g .count-is, g .kept .whole .small)
+    let l = c .before .before .before .before in
+    let g = l .before .loop .inv in
+    omega (arith, l .loop-test .taken, g .1, g .0 .count-is, g .0 .kept .whole .small)
+
+write-two-requires-2 : tie.Need-write-two-requires-2 Inv-loop μ-loop
+write-two-requires-2 c κs =
+    let w = c .before .before .before in
+    let l = w .before .before in
+    let g = l .before .loop .inv in
+    let v = w .write-two .ensures _ _ _ _ _ (omega (arith, g .1, l .loop-test .taken)) (g .0) in
+    (ready-in (v .kept) (v .state), omega (arith, room v, g .1, l .loop-test .taken))
+
+add-i-2 : tie.Need-add-i-2 Inv-loop μ-loop
+add-i-2 c =
+    let l = c .before .before .before .before .before .before .before .before in
+    let g = l .before .loop .inv in
+    omega (arith, l .loop-test .taken, g .1, g .0 .count-is, g .0 .kept .whole .small)
+
+sub-fours : tie.Need-sub-fours Inv-loop μ-loop
+sub-fours c = c .before .before .before .before .before .before .before .before .loop-test .taken
 
 loop-less : tie.Need-loop-less Inv-loop μ-loop
-loop-less c = omega (arith, c .before .before .loop-test .taken)
+loop-less c = omega (arith, c .before .before .before .before .before .before .before .before .loop-test .taken)
 
 loop-again : tie.Need-loop-again Inv-loop μ-loop
 loop-again c =
-    let g = c .before .before .before .loop .inv in
-    stepped-next g (c .before .before .loop-test .taken) (g .state .value-is) (c .next .ensures _ _ _ (g .kept .twice-is) (g .state))
+    let w = c .before .before .before .before .before .before in
+    let l = w .before .before in
+    let g = l .before .loop .inv in
+    let v = w .write-two .ensures _ _ _ _ _ (omega (arith, g .1, l .loop-test .taken)) (g .0) in (
+      c .before .before .write-two2 .ensures _ _ _ _ _ (omega (arith, g .1, l .loop-test .taken)) v,
+      omega (arith, g .1, l .loop-test .taken),
+    )
+
+write-rest-requires : tie.Need-write-rest-requires Inv-loop μ-loop
+write-rest-requires c κs =
+    let g = c .before .before .loop .inv in
+    (ready-in (g .0 .kept) (g .0 .state), omega (arith, g .1), room (g .0))
 
 same-length : tie.Need-same-length Inv-loop μ-loop
-same-length c = long (c .before .loop .inv)
+same-length c = let w = c .before .before in long (w .write-rest .ensures _ _ _ _ (w .before .before .before .loop .inv .0))
 
 returns : tie.Need-returns Inv-loop μ-loop
-returns c = stepped-all (c .before .loop .inv) (c .loop-test .left)
+returns c = let w = c .before .before in stepped-all (w .write-rest .ensures _ _ _ _ (w .before .before .before .loop .inv .0)) (le-refl _)
 
 pub write-spec : {M : Type 1} → statement M
 write-spec =
     tie.close
-    (tie.spec Inv-loop μ-loop sub-least least-requires twice-of-requires new-requires loop-holds cast-out mul-out slice-write-out next-requires
-    add-i loop-less loop-again same-length returns)
+    (tie.spec Inv-loop μ-loop sub-least least-requires twice-of-requires new-requires loop-holds write-two-requires add-i
+    write-two-requires-2 add-i-2 sub-fours loop-less loop-again write-rest-requires same-length returns)

@@ -1,0 +1,49 @@
+-- `quadratic_walk::write_rest` goes on with a walk, whichever it is, to its count. The measure is what is left to write.
+use Prim.Native.Nat.{_-_}
+use mathlib.Core.Path.{refl}
+use native.Mathlib.Omega.{arith}
+use Rattle.quadratic_walk.specs.Spot.{Resting, rest-next, rest-all}
+use borrow.Author.Needs.{needs}
+use Rattle.quadratic_walk.proofs.write_rest.Statement.{statement}
+use Rattle.quadratic_walk.proofs.write_rest.Tie as tie
+
+abbrev Inv-loop : tie.InvT-loop
+Inv-loop k twice out₀ from count at₀ i₀ out at i = Resting k twice count from at₀ out₀ out at i
+
+abbrev μ-loop : tie.MeasureT-loop
+μ-loop k twice out₀ from count at₀ i₀ out at i = count - i
+
+loop-holds : tie.Need-loop-holds Inv-loop μ-loop
+loop-holds c = let p = c .before .pre in record { within = p .0; far = p .1; room = p .2; long = refl; gone-on = λ f1 f2 cell out₀ g. g }
+
+cast-out : tie.Need-cast-out Inv-loop μ-loop
+cast-out c = let w = c .before .before .loop .inv .within in omega (arith, w .value-in, w .small)
+
+mul-out : tie.Need-mul-out Inv-loop μ-loop
+mul-out c = omega (arith, c .before .before .loop .inv .room, c .before .loop-test .taken)
+
+slice-write-out : tie.Need-slice-write-out Inv-loop μ-loop
+slice-write-out c = omega (arith, c .before .before .loop .inv .room, c .before .loop-test .taken)
+
+next-requires : tie.Need-next-requires Inv-loop μ-loop
+next-requires c κs = c .before .before .loop .inv .within
+
+add-i : tie.Need-add-i Inv-loop μ-loop
+add-i c = omega (arith, c .before .before .loop-test .taken)
+
+loop-less : tie.Need-loop-less Inv-loop μ-loop
+loop-less c = omega (arith, c .before .before .loop-test .taken)
+
+loop-again : tie.Need-loop-again Inv-loop μ-loop
+loop-again c = rest-next (c .before .before .loop-test .taken) (c .before .before .before .loop .inv) (c .next .ensures .0) (c .next .ensures .1)
+
+same-length : tie.Need-same-length Inv-loop μ-loop
+same-length c = c .before .loop .inv .long
+
+returns : tie.Need-returns Inv-loop μ-loop
+returns c = rest-all (c .before .loop .inv) (c .loop-test .left)
+
+pub write-rest-spec : {M : Type 1} → statement M
+write-rest-spec =
+    tie.close
+    (tie.spec Inv-loop μ-loop loop-holds cast-out mul-out slice-write-out next-requires add-i loop-less loop-again same-length returns)
