@@ -116,14 +116,15 @@ uint32_t interleaver_deinterleave_symbols(const interleaver_set *set, uint32_t w
    is a blank. sums and counts, n of each, are by input index: value t goes to L(t). A blank changes nothing; the first present value is stored
    with its bits unchanged, count 1; a later one is added with one rounding, and the count rises by one. Zero is a value. Before a first block
    every count is 0, and the sums may hold anything. A sum is exact while its values are whole eighths whose magnitudes total at most 2,097,152.
-   Refusals 1, 2, 3, 16, 11, 10, 8, 5, 6, 14, 13, 15, each decided over the whole block before the next. 13 looks at the sums where the block is blank too; it
-   looks neither at a blank's value nor at a sum whose count is 0. */
+   Refusals 1, 2, 3, 16, 11, 10, 8, 5, 6, 14, 13, 15, each decided over the whole block before the next. 13 looks at the sums where the block is
+   blank too; it looks neither at a blank's value nor at a sum whose count is 0. */
 uint32_t interleaver_add_received(const interleaver_set *set, const float *received, size_t received_len, const uint8_t *present,
                                   size_t present_len, float *sums, size_t sums_len, uint16_t *counts, size_t counts_len);
 
 /* One position, by input index: *sum and *count are what it holds. At a blank, *count is 0, and *sum keeps what it held. A sum that isn't finite is
-   read as it is. A reading asks a walk with no room to have the set tested: some 70 instructions for profile 3, and for profile 5, whose whole set-up that
-   is, some 700 to 6,000; a program may as well look into its own sums and counts. Refusals 1, 2, 3, 16, 11, 10, 8, 4, 6. */
+   read as it is. A reading asks a walk with no room to have the set tested: some 170 instructions in all for profile 3, 250 to 300 for profile 8, and
+   for profile 5, whose whole set-up that is, some 700 to 6,000; a program may as well look into its own sums and counts. Refusals 1, 2, 3, 16, 11, 10,
+   8, 4, 6. */
 uint32_t interleaver_read_sum(const interleaver_set *set, const float *sums, size_t sums_len, const uint16_t *counts, size_t counts_len,
                               uint32_t position, float *sum, uint16_t *count);
 

@@ -94,32 +94,36 @@ static void lists(void) {
     }
 }
 
-/* every k: the listed ones have factors that are accepted, and a list that is the formula's; the others leave what is lent alone */
+/* every k: the listed ones have factors that are accepted, and a list that is the formula's; the others are no set's, and leave what is lent alone */
 static void standard(void) {
     static const uint32_t rows[][3] = {{40, 3, 10}, {48, 7, 12}, {504, 55, 84}, {512, 31, 64}, {528, 17, 66}, {1008, 55, 84}, {1024, 31, 64},
         {1056, 17, 66}, {2016, 113, 420}, {2048, 31, 64}, {2112, 17, 66}, {6080, 47, 190}, {6144, 263, 480}};
-    static const uint32_t far[] = {65576, 2147483688u, 4294967295u};
+    static const uint32_t far[] = {6208, 65576, 2147483688u, 4294967295u};
     const uint32_t none = 0xa5a5a5a5u;
-    uint32_t k, listed = 40, count = 0, f[6];
+    uint32_t k, listed = 40, last = 0, count = 0, weight = 0, f[6];
     unsigned i, wrong = 0;
-    for (k = 0; k <= 6203; k++) {
+    for (k = 0; k <= 6204; k++) {
         uint32_t asked = k <= 6200 ? k : far[k - 6201], number;
-        interleaver_set set;
+        interleaver_set set = interleaver_set_lte(asked, 3, 10);
         memset(f, 0xa5, sizeof f);
         number = interleaver_lte_factors(asked, f + 1);
         wrong += f[0] != none || f[5] != none;
         if (asked != listed) {
             wrong += number != INTERLEAVER_SIZE || f[1] != none || f[2] != none || f[3] != none || f[4] != none;
+            wrong += interleaver_test(&set) != INTERLEAVER_SIZE;
             continue;
         }
         set = interleaver_set_lte(k, f[1], f[2]);
         reckon(set);
         wrong += number != INTERLEAVER_DONE || f[3] != 0 || f[4] != 0 || interleaver_test(&set) != INTERLEAVER_DONE || !walks_whole(set);
-        listed = next_k(k);
+        weight = (weight * 31 + f[1]) * 31 + f[2];
+        last = k;
+        listed = k < MAX ? next_k(k) : 0;
         count++;
     }
     EXPECT(wrong == 0);
-    EXPECT(count == 188);
+    EXPECT(count == 188 && last == MAX);
+    EXPECT(weight == 1642966102u); /* as the table of the standard gives it, row by row */
     for (i = 0; i < sizeof rows / sizeof rows[0]; i++) {
         EXPECT(interleaver_lte_factors(rows[i][0], f) == INTERLEAVER_DONE && f[0] == rows[i][1] && f[1] == rows[i][2] && f[2] == 0 && f[3] == 0);
     }

@@ -95,7 +95,8 @@ static int alike(walk *go, interleaver_set one, interleaver_set other) {
     memset(list, 1, sizeof list);
     memset(again, 2, sizeof again);
     return go(&one, &cell, list, one.n, &written, &cells) == INTERLEAVER_DONE &&
-           go(&other, &end, again, one.n, &times, &passed) == INTERLEAVER_DONE && cell == end && written == one.n && times == written && cells == passed && memcmp(list, again, 2 * one.n) == 0;
+           go(&other, &end, again, one.n, &times, &passed) == INTERLEAVER_DONE && cell == end && written == one.n && times == written &&
+           cells == passed && memcmp(list, again, 2 * one.n) == 0;
 }
 
 /* the factors of every other profile, and the last two of profile 8, are not read */

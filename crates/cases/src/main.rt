@@ -25,7 +25,7 @@ fn stream_set(profile: u32, bits: u32, n: u32, stream: u32) -> Set {
         bits,
         n,
         stream,
-        factors: sets::no_factors(),
+        factors: sets::NO_FACTORS,
     }
 }
 

@@ -11,7 +11,7 @@ fn carrier_at(i: u32) -> Set {
         bits: i / 1536 % 6 + 1,
         n: i % 1536 + 1,
         stream: 1,
-        factors: sets::no_factors(),
+        factors: sets::NO_FACTORS,
     }
 }
 
@@ -22,7 +22,7 @@ fn spatial_at(i: u32) -> Set {
         bits: i / 3888 % 6 + 1,
         n: i % 648 + 1,
         stream: i / 648 % 6,
-        factors: sets::no_factors(),
+        factors: sets::NO_FACTORS,
     }
 }
 
@@ -32,14 +32,14 @@ pub fn turbo_set(k: u32) -> Set {
         bits: 1,
         n: k,
         stream: 1,
-        factors: sets::no_factors(),
+        factors: sets::NO_FACTORS,
     }
 }
 
 fn standard(k: u32) -> Factors {
     match lte::factors(k) {
         Given::Of(f) => f,
-        Given::Refused(_) => sets::no_factors(),
+        Given::Refused(_) => sets::NO_FACTORS,
     }
 }
 
@@ -69,7 +69,7 @@ fn spatial_set(profile: u32, bits: u32, n: u32, stream: u32) -> Set {
         bits,
         n,
         stream,
-        factors: sets::no_factors(),
+        factors: sets::NO_FACTORS,
     }
 }
 

@@ -63,7 +63,11 @@ fn one(k: u32, f1: u32, f2: u32, exchanged: bool, seen: &mut [u16], so_far: Trie
     if (f1 > k) | (f2 > k) {
         return so_far;
     }
-    let got = if exchanged { verdict(k, f2, f1) } else { verdict(k, f1, f2) };
+    let got = if exchanged {
+        verdict(k, f2, f1)
+    } else {
+        verdict(k, f1, f2)
+    };
     so_far.with(got, expected(k, f1, f2, seen))
 }
 

@@ -206,7 +206,10 @@ pub fn every_lte() -> u64 {
         b"L of profile 8, whole",
         b"L of profile 8, slices of 1024",
     );
-    sum(a, walks_of(Way::Interleaver, b"L of profile 8, slices of 7", 4, 7))
+    sum(
+        a,
+        walks_of(Way::Interleaver, b"L of profile 8, slices of 7", 4, 7),
+    )
 }
 
 // L of profile 8 against its lists with t for t². In no total either.

@@ -71,7 +71,7 @@ pub fn small_number(line: &[u8], i: usize, name: &[u8], most: u32, digits: &[u8]
 fn standard(n: u32) -> Factors {
     match lte::factors(n) {
         Given::Of(f) => f,
-        Given::Refused(_) => sets::no_factors(),
+        Given::Refused(_) => sets::NO_FACTORS,
     }
 }
 

@@ -1,5 +1,6 @@
 // LTE's own factors: for each listed K the f1 and f2 of 3GPP TS 36.212, table 5.1.3-3, for whoever has none.
-mod table; // table.rt: the numbers of the table
+mod firsts; // firsts.rt: f1 of each K
+mod seconds; // seconds.rt: f2 of each K
 
 ghost use mathlib.Core.Path.{_≡_};
 ghost use Prim.Native.Nat.{_≤_};
@@ -43,6 +44,13 @@ fn place_of(k: u32) -> usize
     (k / 64 + 91) as usize
 }
 
+// A number of the table.
+fn wide(x: u16) -> u32
+    ensures { λ r. ⌜ r ≡ x ⌝ }
+{
+    x as u32
+}
+
 // The set of profile 8 and size K, with no factors.
 fn set_of(k: u32) -> Set
     ensures { λ r. ⌜ r ≡ lteSet k ⌝ }
@@ -52,7 +60,7 @@ fn set_of(k: u32) -> Set
         bits: 1,
         n: k,
         stream: 1,
-        factors: sets::no_factors(),
+        factors: sets::NO_FACTORS,
     }
 }
 
@@ -65,8 +73,8 @@ pub fn factors(k: u32) -> Given
     }
     let i = place_of(k);
     Given::Of(Factors {
-        first: table::first_at(i),
-        second: table::second_at(i),
+        first: firsts::first_at(i),
+        second: seconds::second_at(i),
         third: 0,
         fourth: 0,
     })

@@ -20,7 +20,7 @@ fn verdict(profile: u32, bits: u32, n: u32) -> u32 {
         bits,
         n,
         stream: 1,
-        factors: sets::no_factors(),
+        factors: sets::NO_FACTORS,
     }) {
         Verdict::Refused(x) => x.number,
         Verdict::Accepted => 0,
@@ -127,7 +127,7 @@ fn front(profile: u32, bits: u32, first: bool) {
         bits,
         n: 0,
         stream: 1,
-        factors: sets::no_factors(),
+        factors: sets::NO_FACTORS,
     });
     streams(numbers.streams);
 }

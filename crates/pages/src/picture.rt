@@ -43,6 +43,10 @@ fn title(set: Set) {
     if set.stream > 1 {
         say_number(b", stream ", set.stream as u64);
     }
+    if sets::is_quadratic(set) {
+        say_number(b", f1 ", set.factors.first as u64);
+        say_number(b", f2 ", set.factors.second as u64);
+    }
     io::write_all(
         STDOUT_FILENO,
         b": input index across, output index down</title>\n",

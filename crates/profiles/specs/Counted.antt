@@ -71,7 +71,6 @@ in-form Range u m b n hu hb e =
     let lo = leb-true u n (q .0) in
     let hi = leb-true n m (q .1) in
     Memᴰ·cast {a = n} (omega arith) (run-mem (λ j. u + j) 0 (m + 1 - u) (n - u) (omega arith) (omega arith))
-
 in-form Tiered u m b n hu hb e =
     let q = both (leb u n) _ e in
     let r = both (leb n m) _ (q .1) in

@@ -101,8 +101,14 @@ module _ (k f1 f2 : ℕ) (hk : 0 < k) (apart : OneToOne (quadraticL k f1 f2) k) 
 
       not-one : f2 ≡ 2 * (f2 / 2) + 1 → v % k ≡ 1 → ⊥
       not-one o q =
-          omega (arith, div-add-mod v k, ap (λ (x : ℕ). x * (v / k)) e, ap (λ (x : ℕ). x * t) (f1-odd m e), ap (λ (x : ℕ). x * (t * t)) o,
-          halves t)
+          omega (
+            arith,
+            div-add-mod v k,
+            ap (λ (x : ℕ). x * (v / k)) e,
+            ap (λ (x : ℕ). x * t) (f1-odd m e),
+            ap (λ (x : ℕ). x * (t * t)) o,
+            halves t,
+          )
 
   -- a common divisor of K and f1
   pub f1-alone : k % 4 ≡ 0 → gcd k f1 ≡ 1

@@ -15,10 +15,10 @@ use Rattle.laws.specs.Shared.{Shared}
 use Rattle.profiles.specs.declared.Family.{Family}
 use Rattle.profiles.specs.declared.Family.the-variants.{Carrier, Spatial, Turbo, Quadratic}
 use Rattle.sizes.specs.Tests.{listedSizes}
-use Rattle.quadratic.specs.Formula.{quadraticL, allApart}
+use Rattle.quadratic.specs.Formula.{quadraticL, within, allApart}
 use Rattle.quadratic.specs.Law.{failed-two, two-failed}
 use Rattle.sets.specs.declared.Set.{Set}
-use Rattle.sets.specs.Set.{sizeOf, familyOf, isQuadratic, f1, f2, within}
+use Rattle.sets.specs.Set.{sizeOf, familyOf, isQuadratic, f1, f2}
 use Rattle.sets.specs.Numbered.{eight-quadratic, quadratic-eight}
 use Rattle.sets.specs.Fit.{quadratic-fit}
 

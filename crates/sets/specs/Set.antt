@@ -1,7 +1,6 @@
 -- The size of a set, its family, the numbers of its formulas, s, and its factors. Rests on crates profiles and sizes. These are definitions.
 use Prim.Native.Nat.{ℕ}
-use mathlib.Core.Bool.{Bool, true, false, _&&_}
-use lib.Dec.{ltb}
+use mathlib.Core.Bool.{Bool, true, false}
 use Rattle.sizes.specs.declared.Size.{Size}
 use Rattle.profiles.specs.declared.Family.{Family}
 use Rattle.profiles.specs.declared.Family.the-variants.{Carrier, Spatial, Turbo, Quadratic}
@@ -60,7 +59,3 @@ f2 s = s .factors .second
 -- the factors of a profile that reads none
 abbrev pub noFactors : Factors
 noFactors = record { first = 0; second = 0; third = 0; fourth = 0 }
-
--- f is from 1 to k - 1
-abbrev pub within : ℕ → ℕ → Bool
-within k f = ltb 0 f && ltb f k

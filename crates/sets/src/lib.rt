@@ -1,7 +1,7 @@
 // A parameter set, the test of one, and what a refusal carries.
 ghost use mathlib.Core.Path.{_≡_};
 ghost use Prim.Native.Nat.{_<_};
-ghost use Rattle.sets.specs.Set.{familyOf, isTurbo, isSpatial, isQuadratic, numbersOf, groupOf, noFactors, within};
+ghost use Rattle.sets.specs.Set.{familyOf, isTurbo, isSpatial, isQuadratic, numbersOf, groupOf};
 ghost use Rattle.sets.specs.Stream.{streamListed};
 ghost use Rattle.sets.specs.Beside.{factorsIn, factorsApart, Testable};
 ghost use Rattle.sets.specs.Verdict.{refusal, sayVerdict, verdictOf};
@@ -39,16 +39,12 @@ pub enum Verdict {
 }
 
 // The factors of a profile that reads none.
-pub fn no_factors() -> Factors
-    ensures { λ r. ⌜ r ≡ noFactors ⌝ }
-{
-    Factors {
-        first: 0,
-        second: 0,
-        third: 0,
-        fourth: 0,
-    }
-}
+pub const NO_FACTORS: Factors = Factors {
+    first: 0,
+    second: 0,
+    third: 0,
+    fourth: 0,
+};
 
 // The family of a set's profile.
 fn family_of(set: Set) -> Family
@@ -128,13 +124,6 @@ fn stream_listed(set: Set) -> bool
     (1 <= set.stream) & (set.stream <= numbers.streams)
 }
 
-// Whether f is from 1 to k - 1.
-fn is_within(k: u32, f: u32) -> bool
-    ensures { λ r. ⌜ r ≡ within k f ⌝ }
-{
-    (0 < f) & (f < k)
-}
-
 // The factors that the family reads are from 1 to N - 1.
 fn factors_in(set: Set) -> bool
     ensures { λ r. ⌜ r ≡ factorsIn set ⌝ }
@@ -142,7 +131,7 @@ fn factors_in(set: Set) -> bool
     if !is_quadratic(set) {
         return true;
     }
-    is_within(set.n, set.factors.first) & is_within(set.n, set.factors.second)
+    quadratic::is_within(set.n, set.factors.first) & quadratic::is_within(set.n, set.factors.second)
 }
 
 // No two positions share an address. The factors have been tested.

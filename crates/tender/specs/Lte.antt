@@ -24,7 +24,6 @@ use Rattle.lte.specs.Factors.{two, lteSet, standardFactors, givenLines, givenOf
 use Rattle.lte.specs.Factors as own
 use Rattle.lte.specs.Accepted.{setOf}
 use Rattle.lte.specs.Accepted as rows
-use Rattle.lte.specs.Admits.{Admitted}
 use Rattle.lte.specs.Admits as lte
 use Rattle.flat.specs.Flat.{numberOf, outOf, factorsList}
 use Rattle.tender.specs.Zero.{zero-is-done, number-is-first, out-is-after, positive}
@@ -32,8 +31,15 @@ use Rattle.tender.specs.Condition2.{Listed, admits, L, M, each-once}
 
 -- "Profile 8 is admitted": K is one of the 188 sizes, bits and stream are 1, f1 and f2 are from 1 to K - 1, and no two different positions below K have one
 -- address. The test of a set accepts it if and only if all of that holds
-pub admits-lte : (s : Set) → s .profile ≡ 8 → Admitted s ↔ (verdictOf s ≡ done tt)
-admits-lte s p = lte.admits s p
+pub admits-lte : (s : Set) → s .profile ≡ 8
+    → (List·Memᴰ (s .n) lteSizes × (s .bits ≡ 1) × (s .stream ≡ 1) × ((1 ≤ f1 s) × (f1 s < s .n)) × ((1 ≤ f2 s) × (f2 s < s .n))
+    × ((x y : ℕ) → x < y → y < s .n → (f1 s * x + f2 s * (x * x)) % s .n ≡ (f1 s * y + f2 s * (y * y)) % s .n → ⊥))
+    ↔ (verdictOf s ≡ done tt)
+unfolding quadraticL
+admits-lte s p = (
+  λ h. lte.admits s p .0 (record { size-listed = h .0; bits-one = h .1; stream-one = h .2; first-in = h .3; second-in = h .4; none-shared = h .5 }),
+  λ e. let a = lte.admits s p .1 e in (a .size-listed, a .bits-one, a .stream-one, a .first-in, a .second-in, a .none-shared),
+)
 
 module _ (s : Set) (p : s .profile ≡ 8) where
   -- L(t) = (f1·t + f2·t²) mod K ..

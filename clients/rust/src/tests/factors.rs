@@ -89,13 +89,16 @@ fn the_standards_own() {
     let tiers = [(40, 512, 8), (528, 1024, 16), (1056, 2048, 32), (2112, 6144, 64)];
     let sizes: Vec<u32> = tiers.into_iter().flat_map(|(first, last, step)| (first..=last).step_by(step)).collect();
     assert_eq!(sizes.len(), 188);
-    for k in (0..=6200).chain([65_576, 2_147_483_688, u32::MAX]) {
+    let weigh = |sum: u32, f: u32| sum.wrapping_mul(31).wrapping_add(f);
+    let weight = sizes.iter().map(|&k| lte::factors(k).unwrap()).fold(0, |sum, (f1, f2)| weigh(weigh(sum, f1), f2));
+    assert_eq!(weight, 1_642_966_102); // as the table of the standard gives it, row by row
+    for k in (0..=6200).chain([6208, 65_576, 2_147_483_688, u32::MAX]) {
         match lte::factors(k) {
             Ok((f1, f2)) => {
                 let set = Set::lte(k, f1, f2).unwrap();
                 assert_eq!((sizes.contains(&k), set.sources()), (true, Ok(list(set))));
             }
-            refused => assert_eq!((sizes.contains(&k), refused), (false, Err(Refusal::Size))),
+            refused => assert_eq!((sizes.contains(&k), refused, Set::lte(k, 3, 10)), (false, Err(Refusal::Size), Err(Refusal::Size))),
         }
     }
     let rows = [(40, (3, 10)), (48, (7, 12)), (504, (55, 84)), (512, (31, 64)), (528, (17, 66)), (1024, (31, 64)), (1056, (17, 66))];

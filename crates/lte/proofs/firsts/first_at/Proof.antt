@@ -1,10 +1,9 @@
--- `lte::table::first_at` reads f1: the array is the column of the standard's table.
-use mathlib.Core.Path.{refl, _∙_}
+-- `lte::firsts::first_at` reads f1: the array is the column of the standard's table.
 use Rattle.lte.specs.Standard.{standard}
 use Rattle.lte.specs.Table.{firsts}
 use borrow.Author.Needs.{needs}
-use Rattle.lte.proofs.table.first_at.Statement.{statement}
-use Rattle.lte.proofs.table.first_at.Tie as tie
+use Rattle.lte.proofs.firsts.first_at.Statement.{statement}
+use Rattle.lte.proofs.firsts.first_at.Tie as tie
 
 returns : tie.Need-returns
 unfolding firsts standard

@@ -1,10 +1,9 @@
--- `lte::table::second_at` reads f2: the array is the column of the standard's table.
-use mathlib.Core.Path.{refl, _∙_}
+-- `lte::seconds::second_at` reads f2: the array is the column of the standard's table.
 use Rattle.lte.specs.Standard.{standard}
 use Rattle.lte.specs.Table.{seconds}
 use borrow.Author.Needs.{needs}
-use Rattle.lte.proofs.table.second_at.Statement.{statement}
-use Rattle.lte.proofs.table.second_at.Tie as tie
+use Rattle.lte.proofs.seconds.second_at.Statement.{statement}
+use Rattle.lte.proofs.seconds.second_at.Tie as tie
 
 returns : tie.Need-returns
 unfolding seconds standard
