@@ -11,6 +11,11 @@ extern read_call *const reads[SIDES];
 enum { NO_ROOM = 65536 };
 struct row { enum kind kind; uint32_t from, sets, length; char name[80]; };
 extern struct set sets[96];
+extern struct row rows[96];
+
+/* Lays them out. The rows from `shown` on are compared, and are not in the table. */
+extern uint32_t row_count, shown;
+void lay_out(void);
 
 /* What a side writes to. The input is the same for all. */
 enum { LIST = 8192, BYTE = 65536, MOST = 5114 };

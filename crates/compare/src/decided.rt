@@ -71,23 +71,13 @@ fn one(k: u32, f1: u32, f2: u32, exchanged: bool, seen: &mut [u16], so_far: Trie
     so_far.with(got, expected(k, f1, f2, seen))
 }
 
-// Every f2 with a K and an f1.
-fn each_second(k: u32, f1: u32, exchanged: bool, seen: &mut [u16], so_far: Tried) -> Tried {
+// Every f1 and f2 with a K.
+fn each_pair(k: u32, exchanged: bool, seen: &mut [u16], so_far: Tried) -> Tried {
     let mut t = so_far;
-    let mut f2 = 0;
-    while f2 <= 128 {
-        t = one(k, f1, f2, exchanged, seen, t);
-        f2 += 1;
-    }
-    t
-}
-
-fn each_first(k: u32, exchanged: bool, seen: &mut [u16], so_far: Tried) -> Tried {
-    let mut t = so_far;
-    let mut f1 = 0;
-    while f1 <= 128 {
-        t = each_second(k, f1, exchanged, seen, t);
-        f1 += 1;
+    let mut i = 0;
+    while i < 16641 {
+        t = one(k, i / 129, i % 129, exchanged, seen, t);
+        i += 1;
     }
     t
 }
@@ -97,7 +87,7 @@ fn each(exchanged: bool, seen: &mut [u16]) -> Tried {
     let mut t = Tried::none();
     let mut j = 5;
     while j <= 16 {
-        t = each_first(j * 8, exchanged, seen, t);
+        t = each_pair(j * 8, exchanged, seen, t);
         j += 1;
     }
     t

@@ -2,8 +2,8 @@
 // of profiles 1 to 4, 6 and 7, every K of 5 and every K of 8 with LTE's own factors, whole and in slices; the test of f1 and f2 with trying all
 // positions, for every K of 8 up to 128; and for sixteen sets shorter slices, blocks of bytes and single addresses. Each
 // comparison is tried on a list that is wrong on purpose as well, and has to count differences there; every K on its list without the exchange of
-// full rectangles, to count the sizes that the exchange touches; and the sets of 6 and 7 on their lists with no stream turned, to count those that
-// are.
+// full rectangles, to count the sizes that the exchange touches; the sets of 6 and 7 on their lists with no stream turned, to count those that
+// are; and those of 8 on their lists with t for t², and its test with f1 and f2 exchanged.
 mod chosen;
 mod count;
 mod decided;

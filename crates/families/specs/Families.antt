@@ -1,7 +1,7 @@
 -- What each family's leaf requires of an accepted set, and that the rule it serves is the set's.
 use Prim.Native.Nat.{ℕ}
 use mathlib.Core.List.{List}
-use mathlib.Core.Path.{_≡_, sym, ap, ap₂, _∙_, subst}
+use mathlib.Core.Path.{_≡_, sym, ap₂, _∙_, subst}
 use native.Mathlib.Omega.{arith}
 use Rattle.laws.specs.declared.Way.{Way}
 use Rattle.laws.specs.declared.Leaf.{Leaf}

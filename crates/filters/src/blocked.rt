@@ -49,7 +49,7 @@ fn turns(way: Way, set: Set, width: u32, src: &mut [u8], dst: &mut [u8]) {
     }
 }
 
-// The blocks in parts of the two rooms that have a block's length: at most 5,114 symbols of 8 bytes, for which there is room.
+// The blocks in parts of the two rooms that have a block's length: at most 6,144 symbols of 8 bytes, for which there is room.
 fn in_parts(way: Way, set: Set, width: u32, src: &mut [u8], dst: &mut [u8]) {
     let n = set.n as usize * width as usize;
     if n > src.len() {

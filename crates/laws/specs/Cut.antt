@@ -1,10 +1,11 @@
 -- A walk over cells writes the first entries that pass, as many as it has room for; the cells it examines are the entries written and
 -- the padding passed; and in pieces it is the walk as a whole. For any rule and test.
-use Prim.Native.Nat.{ℕ, zero, suc, _+_, _-_, _≤_}
+use Prim.Native.Nat.{ℕ, zero, suc, _+_, _-_, _≤_, _<_}
 use mathlib.Core.Bool.{Bool, true, false, cond}
-use mathlib.Core.List.{List, [], _∷_, _++_}
+use mathlib.Core.Logic.{⊎-elim}
+use mathlib.Core.List.{List, [], _∷_, _++_, List·Memᴰ, List·Memᴰ·head, List·Memᴰ·tail}
 use mathlib.Core.Path.{_≡_, refl, ap, sym, _∙_}
-use native.Mathlib.Nat.{suc-add, zero-add, suc-sub-suc, add-suc, sub-zero, add-zero}
+use native.Mathlib.Nat.{suc-add, zero-add, suc-sub-suc, add-suc, sub-zero, add-zero, eq-or-lt-of-le}
 use native.Mathlib.Omega.{arith}
 use lib.ListN.{length, take}
 use lib.Seq.{take-nil}
@@ -21,6 +22,19 @@ module _ {A : Type 0} (f : ℕ → A) (ok : A → Bool) where
           → length (cond b (f c ∷ keep f ok (suc c) n) (keep f ok (suc c) n)) + cond b (padding f ok (suc c) n) (suc (padding f ok (suc c) n)) ≡ suc n
       go true e = omega arith
       go false e = omega arith
+
+  -- the entry of a cell that passes is kept
+  pub keep-has : (c n x : ℕ) → c ≤ x → x < c + n → ok (f x) ≡ true → List·Memᴰ (f x) (keep f ok c n)
+  unfolding keep
+  keep-has c zero x l h e = absurd (omega arith)
+  keep-has c (suc n) x l h e = ⊎-elim here (λ o. later (ok (f c)) (keep-has (suc c) n x o (omega arith) e)) (eq-or-lt-of-le l)
+    where
+      here : c ≡ x → List·Memᴰ (f x) (keep f ok c (suc n))
+      here q = rw (let w : ok (f c) ≡ true = ap (λ (y : ℕ). ok (f y)) q ∙ e in w) (List·Memᴰ·head (ap f (sym q)))
+
+      later : (b : Bool) → List·Memᴰ (f x) (keep f ok (suc c) n) → List·Memᴰ (f x) (cond b (f c ∷ keep f ok (suc c) n) (keep f ok (suc c) n))
+      later true m = List·Memᴰ·tail m
+      later false m = m
 
   -- the first m of the cells, and then the others
   pub keep-cut : (c m n : ℕ) → keep f ok c (m + n) ≡ keep f ok c m ++ keep f ok (c + m) n

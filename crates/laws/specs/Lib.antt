@@ -27,6 +27,7 @@ pub mod Blind
 pub mod Sentences
 pub mod Residue
 pub mod Euclid
+pub mod Split
 pub mod Shared
 pub mod Stepped
 pub mod Seek

@@ -49,3 +49,11 @@ pow-mul a b (suc n) = rw (pow-suc (a * b) n, pow-suc a n, pow-suc b n, pow-mul a
 pub pow-add : (a m n : ℕ) → a ^ (m + n) ≡ a ^ m * a ^ n
 pow-add a m zero = rw (add-zero, pow-zero) (sym (mul-one (a ^ m)))
 pow-add a m (suc n) = rw (add-suc, pow-suc a (m + n), pow-add a m n, pow-suc a n) (omega arith)
+
+-- d that a factor n leaves as it is, is left so by every power of n
+pub power-keeps : (k d n i : ℕ) → d * n % k ≡ d % k → d * n ^ i % k ≡ d % k
+power-keeps k d n zero e = rw (pow-zero, mul-one)
+power-keeps k d n (suc i) e =
+    ap (λ (x : ℕ). x % k) (let q : d * n ^ suc i ≡ d * n ^ i * n = rw pow-suc (omega arith) in q)
+    ∙ mul-mod k (d * n ^ i) d n (power-keeps k d n i e)
+    ∙ e

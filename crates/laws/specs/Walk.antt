@@ -23,7 +23,7 @@ use Rattle.laws.specs.Perm.{Perm, swapped}
 use Rattle.laws.specs.Keep.{keep, wrote, steps, padding}
 use Rattle.laws.specs.Cut.{kept-or-padding, wrote-take, keep-cut}
 use Rattle.laws.specs.Once.{inside}
-use Rattle.laws.specs.Bare.{keep-bare}
+use Rattle.laws.specs.Bare.{keep-bare, steps-bare}
 use Rattle.laws.specs.Loop.{by, by-run}
 
 -- the rule of a block of N: the cell total, and the address of a cell, which is padding exactly when its address is N or more; L, output t
@@ -119,6 +119,19 @@ bare-lawful {n} {l} p h = record {
   list = keep-bare l (inside n) 0 n (λ x lo hi. lt-ltb (l x) n (p .l-below x (omega arith)));
   small = h;
 }
+
+-- without padding, what is behind a cell are the cells
+pub bare-behind : {n : ℕ} {f : ℕ → ℕ} (m : ℕ → ℕ) (cell : ℕ) → ((x : ℕ) → x < n → f x < n) → cell ≤ n → passedBy n (bareRule n f m) cell ≡ cell
+unfolding passedBy
+bare-behind {n} {f} m cell below h =
+    ap length (keep-bare f (inside n) 0 cell (λ x l o. lt-ltb (f x) n (below x (omega arith)))) ∙ length-run f 0 cell
+
+-- and a walk examines as many cells as it has room for, or as there are left
+pub bare-cells : {n : ℕ} {f : ℕ → ℕ} (m : ℕ → ℕ) (cell room : ℕ) → ((x : ℕ) → x < n → f x < n)
+    → walkCells n (bareRule n f m) cell room ≡ min room (n - cell)
+unfolding walkCells
+bare-cells {n} {f} m cell room below =
+    steps-bare f (inside n) cell (n - cell) room (λ x l o. lt-ltb (f x) n (below x (omega arith)))
 
 module _ {n : ℕ} {r : Rule} (h : Lawful n r) where
   pub n-le : n ≤ r .total

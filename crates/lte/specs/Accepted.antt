@@ -1,7 +1,7 @@
 -- The rows of the standard's table are those of the listed sizes, and the test of a set accepts every row: one computed law over the table. Rests on
 -- Standard.
 use mathlib.Core.Bool.{Bool, true, false, false≢true}
-use mathlib.Core.List.{map, List·Memᴰ}
+use mathlib.Core.List.{map, List·Memᴰ, List·Memᴰ·head}
 use mathlib.Core.Path.{_≡_, refl}
 use Rattle.laws.specs.Outcome.{Ruling, clear, stopped, first, settle, done}
 use Rattle.laws.specs.Members.{every, at-each}
@@ -14,7 +14,7 @@ use Rattle.sets.specs.Stream.{streamListed}
 use Rattle.sets.specs.Beside.{factorsIn, factorsApart}
 use Rattle.sets.specs.Verdict.{setLines, verdictOf}
 use Rattle.quadratic.specs.Formula.{allApart}
-use Rattle.lte.specs.Standard.{Row, standard}
+use Rattle.lte.specs.Standard.{Row, row, standard}
 use Rattle.lte.specs.Factors.{two, lteWith}
 
 -- K in the table's order: 40 to 512 by 8, to 1,024 by 16, to 2,048 by 32, to 6,144 by 64
@@ -32,6 +32,11 @@ accepted r = settle (first (setLines (setOf r))) (λ k. false) true
 all-accepted : every accepted standard ≡ true
 unfolding accepted setLines profileListed bitsListed sizeListed streamListed factorsIn factorsApart familyOf numbersOf entryBy allApart gcd gcdIn standard
 all-accepted = refl
+
+-- the first row
+pub first-row : List·Memᴰ (row 40 3 10) standard
+unfolding standard
+first-row = List·Memᴰ·head refl
 
 pub row-accepted : {r : Row} → List·Memᴰ r standard → verdictOf (setOf r) ≡ done tt
 unfolding verdictOf accepted

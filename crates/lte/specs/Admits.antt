@@ -2,7 +2,7 @@
 -- positions share an address. The test of a set accepts exactly these. Rests on Factors, and on Admits of sets.
 use mathlib.Core.Bool.{true}
 use mathlib.Core.List.{[], _∷_, List·Memᴰ, List·Memᴰ·head, List·Memᴰ·eq-of-singleton}
-use mathlib.Core.Logic.{_↔_, inl, inr, ⊎-elim}
+use mathlib.Core.Logic.{_↔_, ⊎-elim}
 use mathlib.Core.Path.{_≡_, refl, sym, subst}
 use Prim.Native.Nat.{ℕ, _≤_, _<_}
 use native.Mathlib.Omega.{arith}
@@ -18,7 +18,8 @@ use Rattle.sizes.specs.Tests.{listedSizes, bitsListed, sizeListed}
 use Rattle.sets.specs.declared.Set.{Set}
 use Rattle.sets.specs.Set.{sizeOf, f1, f2}
 use Rattle.sets.specs.Stream.{streamListed, stream-1, stream-true}
-use Rattle.sets.specs.Beside.{Outside, besideSentences, factors-range}
+use Rattle.sets.specs.Numbered.{eight-quadratic}
+use Rattle.sets.specs.Beside.{besideSentences, not-outside, factors-range}
 use Rattle.sets.specs.Verdict.{verdictOf}
 use Rattle.sets.specs.Admits.{listed-passing, accepted-factors, passed-accepted}
 use Rattle.quadratic.specs.Formula.{quadraticL}
@@ -49,10 +50,6 @@ module _ (s : Set) (p : s .profile ≡ 8) where
     λ h. ⊎-elim (not-outside (a .first-in)) (not-outside (a .second-in)) (h .1),
     (λ h. a .none-shared (h .1 .first) (h .1 .second) (h .1 .apart) (h .1 .below) (h .1 .same), tt),
   )
-    where
-      not-outside : {f : ℕ} → (1 ≤ f) × (f < s .n) → Outside (s .n) f → ⊥
-      not-outside h (inl e) = omega (arith, h .0)
-      not-outside h (inr l) = omega (arith, h .1)
 
   one-bit : bitsListed (sizeOf s) ≡ true → s .bits ≡ 1
   unfolding bitsListed entryBy
@@ -74,7 +71,7 @@ module _ (s : Set) (p : s .profile ≡ 8) where
         (record { size-listed = sized a; stream-passes = sym (stream-1 s (a .stream-one)); beside-none = none-holds a }),
     λ e. let q = passed-accepted s .1 e in
         let t = listed-passing (sizeOf s) (q .size-listed) in
-        let r = factors-range s p (accepted-factors s e .0) in
+        let r = factors-range s (eight-quadratic s p) (accepted-factors s e .0) in
         record {
           size-listed = is-size (one-bit (t .bits-pass)) (t .size-passes);
           bits-one = one-bit (t .bits-pass);

@@ -98,7 +98,7 @@ fn sizes(profile: u32, bits: u32) {
 // What stands behind the sizes: the factors, where the profile reads any.
 fn factors(profile: u32, bits: u32) {
     if verdict(profile, bits, 40) == 11 {
-        say(b"; with f1 and f2 from 1 to N - 1");
+        say(b"; with f1 and f2 from 1 to N - 1 that give no two positions one address");
     }
     say(b"\n");
 }

@@ -1,17 +1,17 @@
 -- What the numbers of an entry admit is counted out: of bits that are admitted there is a row, no row is empty, and a row has each N that is admitted
 -- with its bits. Computed for every entry but the turbo one, where it is shown; no profile of carriers is named. (That what is counted
 -- is admitted as well, specs/Listed.antt of sizes shows.) Rests on Profiles and Entered.
-use mathlib.Core.Path.{_≡_, refl, sym, ap₂, subst}
-use mathlib.Core.Logic.{⊎-elim}
+use mathlib.Core.Path.{_≡_, refl, ap₂, subst}
 use mathlib.Core.Bool.{Bool, true, false, cond, _&&_, false≢true}
-use mathlib.Core.List.{List, [], _∷_, map, List·Memᴰ, List·Memᴰ·head, List·Memᴰ·tail, Memᴰ·cast}
-use Prim.Native.Nat.{ℕ, zero, suc, _+_, _-_, _*_, _/_, _≤_, _<_}
-use native.Mathlib.Nat.{mul-pos, eq-or-lt-of-le}
+use mathlib.Core.List.{List, [], _∷_, map, List·Memᴰ, List·Memᴰ·head, Memᴰ·cast}
+use Prim.Native.Nat.{ℕ, _+_, _-_, _*_, _/_, _≤_, _<_}
+use native.Mathlib.Nat.{mul-pos}
 use native.Mathlib.Omega.{arith}
 use lib.Dec.{leb, ltb, eqb}
 use borrow.Author.Tests.{leb-true, ltb-true, eqb-true}
 use Rattle.laws.specs.Run.{run, run-mem, mem-run}
 use Rattle.laws.specs.Keep.{keep}
+use Rattle.laws.specs.Cut.{keep-has}
 use Rattle.laws.specs.Members.{both, every, at-each, All, all-tested, by-member, oneOf, one-of, multiple-of}
 use Rattle.profiles.specs.declared.Form.{Form}
 use Rattle.profiles.specs.declared.Form.the-variants.{Only, Doubled, Multiple, Grouped, Range, Tiered}
@@ -47,20 +47,6 @@ group-pos b = go (eqb b 6) (eqb b 4)
     go false true = omega arith
     go false false = omega arith
 
--- what passes a test among the numbers from c on
-in-kept : (ok : ℕ → Bool) (c n x : ℕ) → c ≤ x → x < c + n → ok x ≡ true → List·Memᴰ x (keep (λ n. n) ok c n)
-unfolding keep
-in-kept ok c zero x l h e = absurd (omega arith)
-in-kept ok c (suc n) x l h e = ⊎-elim here (λ o. later (ok c) (in-kept ok (suc c) n x o (omega arith) e)) (eq-or-lt-of-le l)
-  where
-    here : c ≡ x → List·Memᴰ x (keep (λ n. n) ok c (suc n))
-    here q = rw (let w : ok c ≡ true = subst (λ (y : ℕ). ok y ≡ true) (sym q) e in w) (List·Memᴰ·head (sym q))
-
-    later : (b : Bool) → List·Memᴰ x (keep (λ n. n) ok (suc c) n)
-        → List·Memᴰ x (cond b (c ∷ keep (λ n. n) ok (suc c) n) (keep (λ n. n) ok (suc c) n))
-    later true m = List·Memᴰ·tail m
-    later false m = m
-
 in-form : (f : Form) (u m b n : ℕ) → 0 < u → 0 < b → sizeIn f u m b n ≡ true → List·Memᴰ n (formSizes f u m b)
 in-form Only u m b n hu hb e = List·Memᴰ·head (eqb-true n (u * b) e)
 in-form Doubled u m b n hu hb e = one-of n (doubles (u * b)) e
@@ -76,7 +62,7 @@ in-form Tiered u m b n hu hb e =
     let r = both (leb n m) _ (q .1) in
     let lo = leb-true u n (q .0) in
     let hi = leb-true n m (r .0) in
-    in-kept (sizeIn Tiered u m b) u (m + 1 - u) n lo (omega arith) e
+    keep-has (λ n. n) (sizeIn Tiered u m b) u (m + 1 - u) n lo (omega arith) e
 
 -- lists that are the same, as a test
 sameList : List ℕ → List ℕ → Bool

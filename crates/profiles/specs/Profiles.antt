@@ -172,7 +172,7 @@ admittedBy p = entryBy p .admitted
 abbrev pub groupBy : ℕ → ℕ
 groupBy b = cond (eqb b 6) 3 (cond (eqb b 4) 2 1)
 
--- the step from a size of LTE to the next
+-- the step to a size of LTE from the one before it
 abbrev pub stepBy : ℕ → ℕ
 stepBy n = cond (leb n 512) 8 (cond (leb n 1024) 16 (cond (leb n 2048) 32 64))
 

@@ -1,4 +1,5 @@
-// The profiles: which family of formulas each has, which numbers, and what it admits; s of the bits, and the step of LTE's sizes. table.rt has them question by question.
+// The profiles: which family of formulas each has, which numbers, and what it admits; s of the bits, and the step of LTE's sizes. table.rt has
+// them question by question.
 ghost use mathlib.Core.Path.{_≡_};
 ghost use Prim.Native.Nat.{_<_};
 ghost use Rattle.profiles.specs.Profiles.{familyBy, numbersBy, admittedBy, groupBy, stepBy, numberListed};
@@ -88,7 +89,7 @@ pub fn group_by(bits: u32) -> u32
     1
 }
 
-// The step from a size to the next, where the form is tiered. (That it is not 0 is promised too.)
+// The step to a size from the one before it, where the form is tiered. (That it is not 0 is promised too.)
 pub fn step_by(n: u32) -> u32
     ensures { λ r. ⌜ r ≡ stepBy n ⌝ }
     ensures { λ r. ⌜ 0 < r ⌝ }

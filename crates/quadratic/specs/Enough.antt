@@ -3,22 +3,14 @@
 -- d = d·(f2·s·v) modulo K, so d = d·(f2·s·v) to the 16th = 0. For every K. Rests on Euclid and
 -- Shared of laws.
 use mathlib.Core.Path.{_≡_, sym, ap, _∙_}
-use Prim.Native.Nat.{ℕ, zero, suc, _+_, _-_, _*_, _/_, _%_, _^_, _<_}
-use native.Mathlib.Nat.{mul-one, pow-zero, pow-suc, mod-eq-of-lt}
+use Prim.Native.Nat.{ℕ, _+_, _*_, _/_, _%_, _^_, _<_}
+use native.Mathlib.Nat.{mod-eq-of-lt}
 use native.Mathlib.Omega.{arith}
 use Rattle.laws.specs.Digits.{mod-cancel}
-use Rattle.laws.specs.Residue.{whole, nought, no-more, mul-mod, pow-mul}
+use Rattle.laws.specs.Residue.{whole, nought, no-more, power-keeps, pow-mul}
 use Rattle.laws.specs.Euclid.{Coprime}
 use Rattle.laws.specs.Shared.{OneToOne, from-distance}
 use Rattle.quadratic.specs.Formula.{quadraticL}
-
--- d that a factor n leaves as it is, is left so by every power of n
-power-keeps : (k d n i : ℕ) → d * n % k ≡ d % k → d * n ^ i % k ≡ d % k
-power-keeps k d n zero e = rw (pow-zero, mul-one)
-power-keeps k d n (suc i) e =
-    ap (λ (x : ℕ). x % k) (let q : d * n ^ suc i ≡ d * n ^ i * n = rw pow-suc (omega arith) in q)
-    ∙ mul-mod k (d * n ^ i) d n (power-keeps k d n i e)
-    ∙ e
 
 module _ (k f1 f2 : ℕ) (hk : 0 < k) (one : Coprime k f1) (power : f2 ^ 16 % k ≡ 0) where
   -- a distance d between two positions of sum s that share an address

@@ -1,8 +1,8 @@
 -- The test is needed: for every K that is a multiple of 4, where different positions have different addresses the test passes. An even f1
 -- gives position K/2 the address 0; two odd numbers give even addresses only; and an odd divisor h of K for which f1 + f2·z is a multiple
 -- of h, for some z, gives two positions K/h apart, of sum z modulo h, one address. The last is used with z = 0 for a common divisor of f1
--- and K, and with z = -f1/f2 for a divisor that has none with f2. Rests on Split, and on
--- Shared of laws.
+-- and K, and with z = -f1/f2 for a divisor that has none with f2. Rests on Split and Shared of
+-- laws.
 use mathlib.Core.Path.{_≡_, refl, sym, ap, _∙_}
 use mathlib.Core.Logic.{⊎-elim}
 use Prim.Native.Nat.{ℕ, zero, suc, _+_, _-_, _*_, _/_, _%_, _^_, _<_}
@@ -13,12 +13,12 @@ use Rattle.laws.specs.Run.{run}
 use Rattle.laws.specs.Position.{position}
 use Rattle.laws.specs.Residue.{whole, same, no-more, even-or-odd}
 use Rattle.laws.specs.Euclid.{gcd, gcd-greatest}
-use Rattle.quadratic.specs.Split.{split, power-of-rest}
+use Rattle.laws.specs.Split.{split, power-of-rest}
 use Rattle.laws.specs.Shared.{OneToOne, run-perm}
 use Rattle.quadratic.specs.Formula.{quadraticL}
 
 -- a position modulo K
-pub address-mod : (k f1 f2 t : ℕ) → quadraticL k f1 f2 (t % k) ≡ quadraticL k f1 f2 t
+address-mod : (k f1 f2 t : ℕ) → quadraticL k f1 f2 (t % k) ≡ quadraticL k f1 f2 t
 unfolding quadraticL
 address-mod k f1 f2 t =
     sym (same k (f1 * q + f2 * (q * (t + r))) (f1 * r + f2 * (r * r))

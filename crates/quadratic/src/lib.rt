@@ -1,5 +1,5 @@
-// The quadratic interleaver of LTE, 3GPP TS 36.212 5.1.3.2.3: the formula, in specs, and the tests of f1 and f2. Whether two positions would share an address is decided by
-// a greatest common divisor and a power, and no position is tried. An inner crate: the test of a set shows what is required.
+// The quadratic interleaver of LTE, 3GPP TS 36.212 5.1.3.2.3: the formula, in specs, and the tests of f1 and f2. Whether two positions would share an
+// address is decided by a greatest common divisor and a power, and no position is tried. An inner crate: the test of a set shows what is required.
 ghost use mathlib.Core.Path.{_≡_};
 ghost use Prim.Native.Nat.{_*_, _%_, _^_, _<_};
 ghost use Rattle.quadratic.specs.Formula.{within, allApart};

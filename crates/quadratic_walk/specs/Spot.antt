@@ -100,9 +100,6 @@ module _ {k f1 f2 twice t : ℕ} {at : Spot} (r : Ready k f1 f2 twice) (p : Spot
     twice-in = rw (r .twice-is) (mod-lt (2 * f2) (r .whole .size));
   }
 
-  pub value-small : at .value < 65536
-  value-small = omega (arith, ready-in .value-in, r .whole .small)
-
 -- the walk from a cell on
 abbrev pub Walking : ℕ → ℕ → ℕ → ℕ → ℕ → ℕ → List ℕ → List ℕ → Spot → ℕ → Type 0
 Walking k f1 f2 cell count twice = Stepped (Ready k f1 f2 twice) (quadraticL k f1 f2) (SpotAt k f1 f2) k cell count

@@ -1,5 +1,5 @@
 -- What an accepted set is, by its family (specs/Fit.antt), its stream, its factors and its size.
-use mathlib.Core.Path.{_≡_, refl, sym, ap, _∙_}
+use mathlib.Core.Path.{_≡_, refl}
 use mathlib.Core.Bool.{true}
 use Prim.Native.Nat.{_≤_, _<_}
 use native.Mathlib.Omega.{arith}
@@ -9,10 +9,9 @@ use Rattle.profiles.specs.declared.Family.the-variants.{Carrier, Spatial, Turbo
 use Rattle.quadratic.specs.Formula.{allApart}
 use Rattle.sets.specs.declared.Set.{Set}
 use Rattle.sets.specs.Set.{sizeOf, familyOf, f1, f2}
-use Rattle.sets.specs.Numbered.{quadratic-eight}
 use Rattle.sets.specs.Stream.{stream-true}
 use Rattle.sets.specs.Fit.{Carried, carrier-fit, spatial-fit, turbo-fit, quadratic-fit}
-use Rattle.sets.specs.Beside.{factorsApart, apartBy, factors-range}
+use Rattle.sets.specs.Beside.{factors-range, factors-apart}
 use Rattle.sets.specs.Verdict.{verdictOf}
 use Rattle.sets.specs.Admits.{accepted-listed, listed-range, accepted-stream, accepted-factors}
 
@@ -35,17 +34,16 @@ module _ (s : Set) (e : verdictOf s ≡ done tt) where
   turbo-size = turbo-fit s (accepted-listed s e)
 
   pub quadratic-size : familyOf s ≡ Quadratic → Squared s
-  unfolding factorsApart
   quadratic-size q =
       let z = quadratic-fit s (accepted-listed s e) q in
       let t = accepted-factors s e in
-      let r = factors-range s (quadratic-eight s q) (t .0) in
+      let r = factors-range s q (t .0) in
       record {
         size = omega (arith, z .0);
         small = z .1;
         first-in = r .0 .1;
         second-in = r .1 .1;
-        apart = sym (ap (λ (f : Family). apartBy f s) q) ∙ t .1;
+        apart = factors-apart s q (t .1);
       }
 
   -- the stream is 1 to 4

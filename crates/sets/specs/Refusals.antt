@@ -1,4 +1,5 @@
--- The refusals of a set in the sentences of document 01, 1, 2, 3, of request 4, 16, and of request 6, 11 and 10, in that order; and that a number is said exactly when its sentence is the first that holds. Lines of other calls may stand behind.
+-- The refusals of a set in the sentences of document 01, 1, 2, 3, of request 4, 16, and of request 6, 11 and 10, in that order; and that a number is said
+-- exactly when its sentence is the first that holds. Lines of other calls may stand behind.
 use Prim.Native.Nat.{ℕ, _≤_}
 use mathlib.Core.Bool.{true}
 use mathlib.Core.List.{List, [], _∷_, _++_, List·Memᴰ}

@@ -31,7 +31,6 @@ use Rattle.families.specs.Rules.{ruleIn, rule-is, spatial-is}
 use Rattle.families.specs.Rules as rules
 use Rattle.walks.specs.Lists as lists
 use Rattle.walks.specs.Answer.{walkedOf, walkValues, foundOf}
-use Rattle.walks.specs.Refusals.{NotWalked}
 use Rattle.walks.specs.Served.{walk-served, address-served, walkable-listed}
 use Rattle.tables.specs.Answer.{movedOf, blind-answer}
 use Rattle.tables.specs.Passed.{block-served}
@@ -57,7 +56,7 @@ listed-counts = (refl, refl, refl, refl, sets-of turbo length-turbo refl, refl, 
 
 -- and accepted means served: of a listed set a walk is done from every cell up to the total, with any room (for M, profiles 5
 -- and 8 apart) ..
-pub served-walk : (way : Way) (w : Walk) (room : ℕ) → Listed (w .set) → (way ≡ Deinterleaver → NotWalked (w .set) → ⊥) → w .cell ≤ ruleIn way (w .set) .total
+pub served-walk : (way : Way) (w : Walk) (room : ℕ) → Listed (w .set) → (way ≡ Deinterleaver → (w .set .profile ≡ 5) ⊎ (w .set .profile ≡ 8) → ⊥) → w .cell ≤ ruleIn way (w .set) .total
     → walkedOf way w room ≡ done (walkValues way w room)
 served-walk way w room l n h = walk-served way w room (walkable-listed way (w .set) (admits (w .set) .0 l) n) h
 

@@ -17,10 +17,10 @@ use Rattle.sets.specs.Verdict.{refusal, verdictOf, refusal-number}
 use Rattle.quadratic.specs.Formula.{quadraticL}
 use Rattle.families.specs.Rules.{rule-is}
 use Rattle.walks.specs.declared.Walk.{Walk}
-use Rattle.walks.specs.Answer.{walkList}
-use Rattle.walks.specs.Whole.{walk-bare-is}
-use Rattle.lte.specs.Standard.{Row, standard}
-use Rattle.lte.specs.Factors.{two, lteSet, standardFactors, givenLines, givenOf, givenSentences}
+use Rattle.walks.specs.Answer.{walkList, walkCells}
+use Rattle.walks.specs.Whole.{walk-bare-is, cells-bare-are}
+use Rattle.lte.specs.Standard.{Row, row, standard}
+use Rattle.lte.specs.Factors.{two, lteWith, lteSet, standardFactors, givenLines, givenOf, givenSentences}
 use Rattle.lte.specs.Factors as own
 use Rattle.lte.specs.Accepted.{setOf}
 use Rattle.lte.specs.Accepted as rows
@@ -52,9 +52,18 @@ module _ (s : Set) (p : s .profile ≡ 8) where
   back-lte l a h = let e = each-once s l in (e .m-below a h, e .l-of-m a h)
 
 -- "The walk may begin at any cell, and obeys condition 3 with no padding": from cell c on it writes L(c), L(c + 1), as many as there is room and cells for
+-- and as many cells are behind it then
 pub walk-lte : (w : Walk) (room : ℕ) → Listed (w .set) → w .set .profile ≡ 8 → w .cell ≤ w .set .n
-    → walkList Interleaver w room ≡ run (L (w .set)) (w .cell) (min room (w .set .n - w .cell))
-walk-lte w room l p h = walk-bare-is w room (admits (w .set) .0 l) (rule-is (w .set) (eight-quadratic (w .set) p)) h
+    → (walkList Interleaver w room ≡ run (L (w .set)) (w .cell) (min room (w .set .n - w .cell)))
+    × (walkCells Interleaver w room ≡ min room (w .set .n - w .cell))
+walk-lte w room l p h =
+    let e = admits (w .set) .0 l in
+    let q = rule-is (w .set) (eight-quadratic (w .set) p) in
+    (walk-bare-is w room e q h, cells-bare-are w room e q)
+
+-- "K 40 with 3 and 10 is accepted": with what it begins, `stars` has
+pub accepted-40 : verdictOf (lteWith 40 (two 3 10)) ≡ done tt
+accepted-40 = rows.row-accepted {r = row 40 3 10} rows.first-row
 
 -- the standard's own factors: its table has the 188 sizes in their order ..
 pub standard-sizes : map (λ r. r .size) standard ≡ lteSizes

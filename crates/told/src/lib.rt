@@ -63,27 +63,33 @@ pub fn twice(name: &[u8]) {
 pub fn usage(c: Command) {
     match c {
         Command::Help => expected(b"help"),
-        Command::Test => expected(b"test PROFILE BITS N [NAMES]"),
+        Command::Test => expected(b"test PROFILE BITS N [stream=I] [f1=F f2=G]"),
         Command::Profiles => expected(b"profiles"),
-        Command::List => expected(b"list PROFILE BITS N [NAMES]"),
-        Command::Back => expected(b"back PROFILE BITS N [NAMES]"),
-        Command::At => expected(b"at PROFILE BITS N T [NAMES]"),
-        Command::To => expected(b"to PROFILE BITS N K [NAMES]"),
-        Command::Walk => expected(b"walk PROFILE BITS N CELL ROOM [NAMES]"),
+        Command::List => expected(b"list PROFILE BITS N [stream=I] [f1=F f2=G]"),
+        Command::Back => expected(b"back PROFILE BITS N [stream=I] [f1=F f2=G]"),
+        Command::At => expected(b"at PROFILE BITS N T [stream=I] [f1=F f2=G]"),
+        Command::To => expected(b"to PROFILE BITS N K [stream=I] [f1=F f2=G]"),
+        Command::Walk => expected(b"walk PROFILE BITS N CELL ROOM [stream=I] [f1=F f2=G]"),
         Command::Picture => {
-            expected(b"picture PROFILE BITS N [NAMES] or picture dvb burst [AT LENGTH]")
+            expected(
+                b"picture PROFILE BITS N [stream=I] [f1=F f2=G] or picture dvb burst [AT LENGTH]",
+            )
         }
         Command::Factors => expected(b"factors K"),
         Command::Lines => expected(b"lines"),
-        Command::Interleave => expected(b"interleave PROFILE BITS N [WIDTH] [NAMES]"),
-        Command::Deinterleave => expected(b"deinterleave PROFILE BITS N [WIDTH] [NAMES]"),
+        Command::Interleave => expected(
+            b"interleave PROFILE BITS N [WIDTH] [stream=I] [f1=F f2=G]",
+        ),
+        Command::Deinterleave => expected(
+            b"deinterleave PROFILE BITS N [WIDTH] [stream=I] [f1=F f2=G]",
+        ),
         Command::Dvb => expected(
             b"dvb interleave FILL, dvb deinterleave FILL or dvb burst AT LENGTH",
         ),
         Command::Burst => expected(b"dvb burst AT LENGTH"),
         Command::BurstPicture => expected(b"picture dvb burst [AT LENGTH]"),
         Command::Combine => expected(
-            b"combine PROFILE BITS N FILE ... [NAMES], each an argument of its own",
+            b"combine PROFILE BITS N FILE ... [stream=I] [f1=F f2=G], each an argument of its own",
         ),
         Command::Unknown => expected(
             b"one of help, test, profiles, list, back, at, to, walk, picture, factors, lines, interleave, deinterleave, dvb, combine",

@@ -4,20 +4,18 @@ use mathlib.Core.List.{List}
 use mathlib.Core.Path.{_≡_, sym, ap, subst, _∙_}
 use native.Mathlib.Omega.{arith}
 use lib.ListN.{length}
-use borrow.Author.Tests.{le-ltb, lt-ltb}
+use borrow.Author.Tests.{le-ltb}
 use Rattle.laws.specs.declared.Way.the-variants.{Interleaver, Deinterleaver}
 use Rattle.laws.specs.Outcome.{clear, first, first-join, clear-front, first-clear, clear-done}
-use Rattle.laws.specs.Run.{run, length-run}
+use Rattle.laws.specs.Run.{run}
 use Rattle.laws.specs.Loop.{by}
-use Rattle.laws.specs.Once.{inside}
-use Rattle.laws.specs.Bare.{keep-bare}
-use Rattle.laws.specs.Walk.{Rule, bareRule, passedBy, leafLines}
+use Rattle.laws.specs.Walk.{Rule, bareRule, passedBy, bare-behind, bare-cells, leafLines}
 use Rattle.laws.specs.Walk as along
 use Rattle.sets.specs.declared.Set.{Set}
 use Rattle.sets.specs.Verdict.{setLines, refusal, verdictOf}
 use Rattle.walks.specs.declared.Walk.{Walk}
-use Rattle.families.specs.Rules.{ruleOf, ruleIn, L, M, lawful, lawful-way}
-use Rattle.walks.specs.Answer.{planLines, walkLines, walkList, walkSlice}
+use Rattle.families.specs.Rules.{ruleOf, L, M, lawful, lawful-way}
+use Rattle.walks.specs.Answer.{planLines, walkLines, walkList, walkCells, walkSlice}
 use Rattle.sets.specs.Admits.{Accepted}
 
 -- the record at the beginning
@@ -48,14 +46,6 @@ module _ (w : Walk) (room : ℕ) (e : Accepted (w .set)) where
       → walkList Interleaver w room ≡ run (L (w .set)) (behind w) (min room (w .set .n - behind w))
   walk-l-is h = along.walk-from (lawful (w .set) e) (w .cell) room h
 
-  -- without padding, what is behind a cell are the cells
-  all-behind : (f m : ℕ → ℕ) → ((x : ℕ) → x < w .set .n → f x < w .set .n) → w .cell ≤ w .set .n
-      → passedBy (w .set .n) (bareRule (w .set .n) f m) (w .cell) ≡ w .cell
-  unfolding passedBy
-  all-behind f m below h =
-      ap length (keep-bare f (inside (w .set .n)) 0 (w .cell) (λ x l o. lt-ltb (f x) (w .set .n) (below x (omega arith))))
-      ∙ length-run f 0 (w .cell)
-
   -- a family without padding, and M
   pub walk-bare-is : {l m : ℕ → ℕ} → ruleOf (w .set) ≡ bareRule (w .set .n) l m → w .cell ≤ w .set .n
       → walkList Interleaver w room ≡ run (L (w .set)) (w .cell) (min room (w .set .n - w .cell))
@@ -64,9 +54,15 @@ module _ (w : Walk) (room : ℕ) (e : Accepted (w .set)) where
       λ x o. subst (λ (r : Rule). r .l x < w .set .n) q (lawful (w .set) e .perm .l-below x o) in
       walk-l-is (subst (λ (r : Rule). w .cell ≤ r .total) (sym q) h)
       ∙ ap (λ (c : ℕ). run (L (w .set)) c (min room (w .set .n - c)))
-      (ap (λ (r : Rule). passedBy (w .set .n) r (w .cell)) q ∙ all-behind l m below h)
+      (ap (λ (r : Rule). passedBy (w .set .n) r (w .cell)) q ∙ bare-behind m (w .cell) below h)
+
+  -- and examines as many cells as it writes addresses
+  pub cells-bare-are : {l m : ℕ → ℕ} → ruleOf (w .set) ≡ bareRule (w .set .n) l m → walkCells Interleaver w room ≡ min room (w .set .n - w .cell)
+  cells-bare-are {l} {m} q =
+      ap (λ (r : Rule). along.walkCells (w .set .n) r (w .cell) room) q
+      ∙ bare-cells m (w .cell) room (λ x o. subst (λ (r : Rule). r .l x < w .set .n) q (lawful (w .set) e .perm .l-below x o))
 
   pub walk-m-is : w .cell ≤ w .set .n → walkList Deinterleaver w room ≡ run (M (w .set)) (w .cell) (min room (w .set .n - w .cell))
   walk-m-is h =
       along.walk-from (lawful-way Deinterleaver (w .set) e) (w .cell) room h
-      ∙ ap (λ (c : ℕ). run (M (w .set)) c (min room (w .set .n - c))) (all-behind (M (w .set)) (L (w .set)) (lawful (w .set) e .perm .m-below) h)
+      ∙ ap (λ (c : ℕ). run (M (w .set)) c (min room (w .set .n - c))) (bare-behind (L (w .set)) (w .cell) (lawful (w .set) e .perm .m-below) h)

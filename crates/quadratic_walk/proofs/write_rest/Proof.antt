@@ -3,7 +3,6 @@ use Prim.Native.Nat.{_-_}
 use mathlib.Core.Path.{refl}
 use native.Mathlib.Omega.{arith}
 use Rattle.quadratic_walk.specs.Spot.{Resting, rest-next, rest-all}
-use borrow.Author.Needs.{needs}
 use Rattle.quadratic_walk.proofs.write_rest.Statement.{statement}
 use Rattle.quadratic_walk.proofs.write_rest.Tie as tie
 

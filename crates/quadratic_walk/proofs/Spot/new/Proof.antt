@@ -1,7 +1,6 @@
 -- `quadratic_walk::Spot::new` sets the walk up at a position.
 use native.Mathlib.Omega.{arith}
 use Rattle.quadratic_walk.specs.Spot.{linear-fits, twice-fits, square-fits, quadratic-fits, spot-new}
-use borrow.Author.Needs.{needs}
 use Rattle.quadratic_walk.proofs.Spot.new.Statement.{statement}
 use Rattle.quadratic_walk.proofs.Spot.new.Tie as tie
 

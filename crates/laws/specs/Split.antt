@@ -1,12 +1,12 @@
 -- A number is a product of two: one that has no common divisor with f, and one that divides a power of f. It is found by taking the
--- greatest common divisor out again and again; n times are enough for a number below 2 to the n. Rests on Euclid of laws.
+-- greatest common divisor out again and again; n times are enough for a number below 2 to the n. Rests on Euclid.
 use mathlib.Core.Path.{_≡_, refl, sym, ap, _∙_}
 use Prim.Native.Nat.{ℕ, zero, suc, _*_, _/_, _%_, _^_, _≤_, _<_}
 use native.Mathlib.Nat.{mul-one, one-mul, pow-zero, pow-suc, two-pow-succ, mul-zero, zero-mul, mul-le-mul-right}
 use native.Mathlib.Omega.{arith}
 use native.Mathlib.Decide.{ℕ-discrete}
 use Rattle.laws.specs.Residue.{whole, nought}
 use Rattle.laws.specs.Euclid.{gcd, gcd-greatest, Coprime, coprime}
 
 pub record Split (k f n : ℕ) : Type 0 where
   pub free : ℕ
