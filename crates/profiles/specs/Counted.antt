@@ -4,7 +4,7 @@
 use mathlib.Core.Path.{_≡_, refl, ap₂, subst}
 use mathlib.Core.Bool.{Bool, true, false, cond, _&&_, false≢true}
 use mathlib.Core.List.{List, [], _∷_, map, List·Memᴰ, List·Memᴰ·head, Memᴰ·cast}
-use Prim.Native.Nat.{ℕ, _+_, _-_, _*_, _/_, _≤_, _<_}
+use Prim.Native.Nat.{ℕ, _+_, _-_, _*_, _/_, _%_, _≤_, _<_}
 use native.Mathlib.Nat.{mul-pos}
 use native.Mathlib.Omega.{arith}
 use lib.Dec.{leb, ltb, eqb}
@@ -18,7 +18,7 @@ use Rattle.profiles.specs.declared.Form.the-variants.{Only, Doubled, Mul
 use Rattle.profiles.specs.declared.Admitted.{Admitted}
 use Rattle.profiles.specs.Entry.{Row, Entry, some, multiples}
 use Rattle.profiles.specs.Profiles.{turboSizes, lteSizes, turbo, carriers, spatials, quadratics, profiles, entryBy}
-use Rattle.profiles.specs.Profiles.{groupBy, bitsOf, bitsIn, doubles, sizeIn, sizeBy}
+use Rattle.profiles.specs.Profiles.{groupBy, stepBy, bitsOf, bitsIn, doubles, sizeIn, sizeBy}
 use Rattle.profiles.specs.Entered.{in-profiles, every-profile}
 
 -- a row has each size that is admitted with its bits
@@ -37,7 +37,7 @@ formSizes Doubled u m b = doubles (u * b)
 formSizes Multiple u m b = multiples (u * b) (m / (u * b))
 formSizes Grouped u m b = multiples (u * groupBy b) (m / (u * groupBy b))
 formSizes Range u m b = run (λ j. u + j) 0 (m + 1 - u)
-formSizes Tiered u m b = keep (λ n. n) (sizeIn Tiered u m b) u (m + 1 - u)
+formSizes Tiered u m b = keep (λ j. 8 * j) (sizeIn Tiered u m b) (u / 8) (m / 8 + 1 - u / 8)
 
 group-pos : (b : ℕ) → 0 < groupBy b
 group-pos b = go (eqb b 6) (eqb b 4)
@@ -46,6 +46,16 @@ group-pos b = go (eqb b 6) (eqb b 4)
     go true t = omega arith
     go false true = omega arith
     go false false = omega arith
+
+-- every step is a multiple of 8
+by-eights : (n : ℕ) → n % stepBy n ≡ 0 → n % 8 ≡ 0
+by-eights n e = go (leb n 512) (leb n 1024) (leb n 2048) e
+  where
+    go : (a b c : Bool) → n % cond a 8 (cond b 16 (cond c 32 64)) ≡ 0 → n % 8 ≡ 0
+    go true b c e = e
+    go false true c e = omega arith
+    go false false true e = omega arith
+    go false false false e = omega arith
 
 in-form : (f : Form) (u m b n : ℕ) → 0 < u → 0 < b → sizeIn f u m b n ≡ true → List·Memᴰ n (formSizes f u m b)
 in-form Only u m b n hu hb e = List·Memᴰ·head (eqb-true n (u * b) e)
@@ -62,7 +72,10 @@ in-form Tiered u m b n hu hb e =
     let r = both (leb n m) _ (q .1) in
     let lo = leb-true u n (q .0) in
     let hi = leb-true n m (r .0) in
-    keep-has (λ n. n) (sizeIn Tiered u m b) u (m + 1 - u) n lo (omega arith) e
+    let w : n ≡ 8 * (n / 8) = omega (arith, by-eights n (eqb-true (n % stepBy n) 0 (r .1))) in
+    Memᴰ·cast {a = n} w
+    (keep-has (λ j. 8 * j) (sizeIn Tiered u m b) (u / 8) (m / 8 + 1 - u / 8) (n / 8) (omega arith) (omega arith)
+    (subst (λ (x : ℕ). sizeIn Tiered u m b x ≡ true) w e))
 
 -- lists that are the same, as a test
 sameList : List ℕ → List ℕ → Bool
