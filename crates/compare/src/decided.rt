@@ -14,25 +14,6 @@ struct Tried {
     differences: u64,
 }
 
-impl Tried {
-    fn none() -> Self {
-        Tried {
-            sets: 0,
-            accepted: 0,
-            differences: 0,
-        }
-    }
-
-    // One more set: the number that the test gave, and the one that trying gives.
-    fn with(self, got: u32, right: u32) -> Self {
-        Tried {
-            sets: sum(self.sets, 1),
-            accepted: sum(self.accepted, if got == 0 { 1 } else { 0 }),
-            differences: sum(self.differences, if got == right { 0 } else { 1 }),
-        }
-    }
-}
-
 // The number that the test of a set gives, or 0.
 fn verdict(k: u32, first: u32, second: u32) -> u32 {
     let factors = Factors {
@@ -68,7 +49,12 @@ fn one(k: u32, f1: u32, f2: u32, exchanged: bool, seen: &mut [u16], so_far: Trie
     } else {
         verdict(k, f1, f2)
     };
-    so_far.with(got, expected(k, f1, f2, seen))
+    let right = expected(k, f1, f2, seen);
+    Tried {
+        sets: sum(so_far.sets, 1),
+        accepted: sum(so_far.accepted, if got == 0 { 1 } else { 0 }),
+        differences: sum(so_far.differences, if got == right { 0 } else { 1 }),
+    }
 }
 
 // Every f1 and f2 with a K.
@@ -84,7 +70,11 @@ fn each_pair(k: u32, exchanged: bool, seen: &mut [u16], so_far: Tried) -> Tried 
 
 // K 40 to 128 by 8.
 fn each(exchanged: bool, seen: &mut [u16]) -> Tried {
-    let mut t = Tried::none();
+    let mut t = Tried {
+        sets: 0,
+        accepted: 0,
+        differences: 0,
+    };
     let mut j = 5;
     while j <= 16 {
         t = each_pair(j * 8, exchanged, seen, t);
@@ -93,7 +83,8 @@ fn each(exchanged: bool, seen: &mut [u16]) -> Tried {
     t
 }
 
-fn show(title: &[u8], exchanged: bool) -> u64 {
+// A line for all of them; with f1 and f2 exchanged for the test, what is counted is in no total.
+pub fn show(title: &[u8], exchanged: bool) -> u64 {
     let mut seen = [0u16; 128];
     let t = each(exchanged, &mut seen);
     io::write_all(STDOUT_FILENO, title);
@@ -102,16 +93,4 @@ fn show(title: &[u8], exchanged: bool) -> u64 {
     number(b" differences ", t.differences);
     io::write_all(STDOUT_FILENO, b"\n");
     t.differences
-}
-
-pub fn every() -> u64 {
-    show(
-        b"the test of f1 and f2 against all positions tried, profile 8, K 40 to 128",
-        false,
-    )
-}
-
-// The test is asked of f2 and f1: what is counted here is in no total.
-pub fn wrong_order() {
-    show(b"wrong on purpose, the test of f2 and f1", true);
 }

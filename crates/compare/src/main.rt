@@ -104,7 +104,12 @@ fn main() {
         b"L of profile 5, slices of 1024",
     );
     let spatials = sum(lists::every_spatial_l(), lists::every_spatial_m());
-    let lte = sum(lists::every_lte(), decided::every());
+    let listed = lists::every_lte();
+    let pairs = decided::show(
+        b"the test of f1 and f2 against all positions tried, profile 8, K 40 to 128",
+        false,
+    );
+    let lte = sum(listed, pairs);
     let sixteen = sum(sixteen_walks(), sixteen_moves());
     lists::wrong_walk();
     wrong_block();
@@ -119,6 +124,6 @@ fn main() {
         b"wrong on purpose, M of profiles 6 and 7 not turned, the sets that are",
     );
     lists::wrong_square();
-    decided::wrong_order();
+    decided::show(b"wrong on purpose, the test of f2 and f1", true);
     count::last_line(sum(sum(sum(sum(carriers, turbos), spatials), lte), sixteen));
 }

@@ -6,7 +6,7 @@ ghost use Rattle.profiles.specs.Profiles.{familyBy, numbersBy, admittedB
 
 mod table; // table.rt: what each profile is
 
-// The kinds of interleaver that profiles are of: one rule for each. (crate families: src/ has a file for each.)
+// The kinds of interleaver that profiles are of: one rule for each. (crate families, specs/Rules.antt; a crate for each has its leaves.)
 pub enum Family {
     Carrier,
     Spatial,

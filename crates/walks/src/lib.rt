@@ -1,5 +1,5 @@
 // The public calls on a parameter set: the walk for L, the walk for M, one address either way. Every input is tested inside. Here a set is
-// tested and the call given to its family, in crate families. A way stands for a list: L for the interleaver, which
+// tested and the call given to its family, in crate leaves. A way stands for a list: L for the interleaver, which
 // takes output t from input L(t), and M for the deinterleaver, which takes output k from input M(k).
 ghost use mathlib.Core.Bool.{cond};
 ghost use mathlib.Core.Path.{_≡_};
@@ -45,7 +45,7 @@ pub enum Found {
 fn refused_walk(way: Way, set: Set, x: Refusal) -> Refusal
     ensures { λ r. ⌜ r ≡ cond (barred way (familyOf set)) (refusal set 1) x ⌝ }
 {
-    if families::is_barred(way, set) {
+    if leaves::is_barred(way, set) {
         return sets::refusal_of(set, 1);
     }
     x
@@ -93,7 +93,7 @@ pub fn walk_by(way: Way, w: Walk, out: &mut [u16]) -> Walked
     match v {
         Verdict::Refused(x) => Walked::Refused(refused_walk(way, w.set, x)),
         Verdict::Accepted => {
-            let leaf = families::walk(way, w.set, w.cell as usize, out);
+            let leaf = leaves::walk(way, w.set, w.cell as usize, out);
             finish_walk(w, leaf)
         }
     }
@@ -123,7 +123,7 @@ pub fn address_by(way: Way, set: Set, x: u32) -> Found
     match v {
         Verdict::Refused(x) => Found::Refused(x),
         Verdict::Accepted => {
-            let one = families::address(way, set, x as usize);
+            let one = leaves::address(way, set, x as usize);
             finish_one(set, one)
         }
     }

@@ -1,0 +1,42 @@
+-- `leaves::address` asks the family of the set.
+use mathlib.Core.Path.{sym, _∙_}
+use Rattle.sets.specs.Beside.{the-quadratic}
+use Rattle.families.specs.Taken.{the-turbo, the-spatial, the-carrier}
+use borrow.Author.Needs.{needs}
+use Rattle.leaves.proofs.address.Statement.{statement}
+use Rattle.leaves.proofs.address.Tie as tie
+
+address-requires : tie.Need-address-requires
+address-requires c κs =
+    let i = c in
+    let t = i .before in
+    record { accepted = t .before .pre; which = the-turbo _ (sym (t .is-turbo .ensures) ∙ i .if1 .taken) }
+
+address-requires-2 : tie.Need-address-requires-2
+address-requires-2 c κs =
+    let i = c in
+    let t = i .before .before .before in
+    record { accepted = t .before .pre; which = the-spatial _ (sym (i .before .is-spatial .ensures) ∙ i .if2 .taken) }
+
+address-requires-3 : tie.Need-address-requires-3
+address-requires-3 c κs =
+    let i = c in
+    let t = i .before .before .before .before .before in
+    record { accepted = t .before .pre; which = the-quadratic _ (sym (i .before .is-quadratic .ensures) ∙ i .if3 .taken) }
+
+address-requires-4 : tie.Need-address-requires-4
+address-requires-4 c κs =
+    let i = c in
+    let s = i .before .before in
+    let t = s .before .before .before in
+    record {
+      accepted = t .before .pre;
+      which = the-carrier _ (sym (t .is-turbo .ensures) ∙ s .before .before .if1 .left) (sym (s .before .is-spatial .ensures) ∙ s .if2 .left)
+          (sym (i .before .is-quadratic .ensures) ∙ i .if3 .left);
+    }
+
+pub address-spec : {M : Type 1} → statement M
+address-spec =
+    tie.close
+    (tie.spec (λ c κs. search needs) address-requires (λ c. search needs) (λ c κs. search needs) address-requires-2 (λ c. search needs)
+    (λ c κs. search needs) address-requires-3 (λ c. search needs) address-requires-4 (λ c. search needs))

@@ -1,0 +1,42 @@
+-- `leaves::walk` asks the family of the set.
+use mathlib.Core.Path.{sym, _∙_}
+use Rattle.sets.specs.Beside.{the-quadratic}
+use Rattle.families.specs.Taken.{the-turbo, the-spatial, the-carrier}
+use borrow.Author.Needs.{needs}
+use Rattle.leaves.proofs.walk.Statement.{statement}
+use Rattle.leaves.proofs.walk.Tie as tie
+
+walk-requires : tie.Need-walk-requires
+walk-requires c κs =
+    let i = c .before in
+    let t = i .before in
+    record { accepted = t .before .before .pre; which = the-turbo _ (sym (t .is-turbo .ensures) ∙ i .if1 .taken) }
+
+walk-requires-2 : tie.Need-walk-requires-2
+walk-requires-2 c κs =
+    let i = c .before in
+    let t = i .before .before .before in
+    record { accepted = t .before .before .pre; which = the-spatial _ (sym (i .before .is-spatial .ensures) ∙ i .if2 .taken) }
+
+walk-requires-3 : tie.Need-walk-requires-3
+walk-requires-3 c κs =
+    let i = c .before in
+    let t = i .before .before .before .before .before in
+    record { accepted = t .before .before .pre; which = the-quadratic _ (sym (i .before .is-quadratic .ensures) ∙ i .if3 .taken) }
+
+walk-requires-4 : tie.Need-walk-requires-4
+walk-requires-4 c κs =
+    let i = c .before in
+    let s = i .before .before in
+    let t = s .before .before .before in
+    record {
+      accepted = t .before .before .pre;
+      which = the-carrier _ (sym (t .is-turbo .ensures) ∙ s .before .before .if1 .left) (sym (s .before .is-spatial .ensures) ∙ s .if2 .left)
+          (sym (i .before .is-quadratic .ensures) ∙ i .if3 .left);
+    }
+
+pub walk-spec : {M : Type 1} → statement M
+walk-spec =
+    tie.close
+    (tie.spec (λ c κs. search needs) walk-requires (λ c. search needs) (λ c. search needs) (λ c κs. search needs) walk-requires-2 (λ c. search needs) (λ c. search needs)
+    (λ c κs. search needs) walk-requires-3 (λ c. search needs) (λ c. search needs) walk-requires-4 (λ c. search needs) (λ c. search needs))

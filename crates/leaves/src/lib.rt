@@ -1,0 +1,56 @@
+// Which leaf is asked for the walk and for one address of an accepted set: that of its family. A crate for each family has its leaves; families has
+// their rules. Inner functions: whoever calls them has tested the set.
+ghost use mathlib.Core.Path.{_≡_};
+ghost use Rattle.laws.specs.Walk.{SingleOf};
+ghost use Rattle.sets.specs.Set.{familyOf};
+ghost use Rattle.families.specs.Rules.{ruleOf, ruleIn, barred};
+ghost use Rattle.sets.specs.Admits.{Accepted};
+ghost use Rattle.families.specs.Taken.{WalkLeaf};
+use laws::Leaf;
+use laws::Single;
+use laws::Way;
+use sets::Set;
+
+// Whether a walk is not had: M of a family whose M is not walked.
+pub fn is_barred(way: Way, set: Set) -> bool
+    ensures { λ r. ⌜ r ≡ barred way (familyOf set) ⌝ }
+{
+    match way {
+        Way::Interleaver => false,
+        Way::Deinterleaver => sets::is_turbo(set) | sets::is_quadratic(set),
+    }
+}
+
+// The walk of an accepted set, by family: 1 where it is not had.
+pub fn walk(way: Way, set: Set, cell: usize, out: &mut [u16]) -> Leaf
+    requires { ⌜ Accepted set ⌝ }
+    ensures { λ r. ⌜ WalkLeaf way set cell (now (out .entry)) (now (out .exit)) r ⌝ }
+{
+    if sets::is_turbo(set) {
+        return turbo_sets::walk(way, set, cell, out);
+    }
+    if sets::is_spatial(set) {
+        return spatial_sets::walk(way, set, cell, out);
+    }
+    if sets::is_quadratic(set) {
+        return quadratic_sets::walk(way, set, cell, out);
+    }
+    carrier_sets::walk(way, set, cell, out)
+}
+
+// One address of an accepted set, by family.
+pub fn address(way: Way, set: Set, x: usize) -> Single
+    requires { ⌜ Accepted set ⌝ }
+    ensures { λ r. ⌜ SingleOf (set .n) (ruleOf set) (ruleIn way set .l) x r ⌝ }
+{
+    if sets::is_turbo(set) {
+        return turbo_sets::address(way, set, x);
+    }
+    if sets::is_spatial(set) {
+        return spatial_sets::address(way, set, x);
+    }
+    if sets::is_quadratic(set) {
+        return quadratic_sets::address(way, set, x);
+    }
+    carrier_sets::address(way, set, x)
+}

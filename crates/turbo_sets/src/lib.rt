@@ -1,0 +1,29 @@
+// An accepted set of the turbo family: its K, and the leaf that is asked. M is not walked.
+use laws::Leaf;
+use laws::Single;
+use laws::Way;
+use sets::Set;
+ghost use Rattle.laws.specs.Walk.{SingleOf};
+ghost use Rattle.profiles.specs.declared.Family.the-variants.{Turbo};
+ghost use Rattle.families.specs.Rules.{ruleOf, ruleIn};
+ghost use Rattle.families.specs.Taken.{Taken, WalkLeaf};
+
+pub fn walk(way: Way, set: Set, cell: usize, out: &mut [u16]) -> Leaf
+    requires { ⌜ Taken set Turbo ⌝ }
+    ensures { λ r. ⌜ WalkLeaf way set cell (now (out .entry)) (now (out .exit)) r ⌝ }
+{
+    match way {
+        Way::Interleaver => wcdma_walk::walk(set.n as usize, cell, out),
+        Way::Deinterleaver => Leaf::Stopped(1),
+    }
+}
+
+pub fn address(way: Way, set: Set, x: usize) -> Single
+    requires { ⌜ Taken set Turbo ⌝ }
+    ensures { λ r. ⌜ SingleOf (set .n) (ruleOf set) (ruleIn way set .l) x r ⌝ }
+{
+    match way {
+        Way::Interleaver => wcdma_walk::address_of(set.n as usize, x),
+        Way::Deinterleaver => wcdma_walk::place_of(set.n as usize, x),
+    }
+}
