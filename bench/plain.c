@@ -160,8 +160,6 @@ INLINE uint32_t step_move(const struct set *set, size_t size, const void *src, v
     return 0;
 }
 
-#define MOVE(name, move, size) \
-    uint32_t name(const struct set *set, const void *src, size_t a, void *dst, size_t b) { return (void)a, (void)b, move(set, size, src, dst); }
 MOVE(divide_bytes, divide_move, 1)
 MOVE(divide_soft, divide_move, 4)
 MOVE(step_bytes, step_move, 1)

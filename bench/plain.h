@@ -43,6 +43,8 @@ walk_call divide_lte, step_lte;
 typedef uint32_t move_call(const struct set *, const void *src, size_t, void *dst, size_t);
 move_call divide_bytes, divide_soft, step_bytes, step_soft, divide_spatial_bytes, step_spatial_bytes;
 move_call divide_lte_bytes, divide_lte_soft, step_lte_bytes, step_lte_soft;
+#define MOVE(name, move, size) \
+    uint32_t name(const struct set *set, const void *src, size_t a, void *dst, size_t b) { return (void)a, (void)b, move(set, size, src, dst); }
 
 /* A received block added to what is stored, value t at L(t), with the tests of the library; and a position read, which takes no address. */
 typedef uint32_t add_call(const struct set *, const float *received, size_t, const uint8_t *present, size_t, float *sums, size_t, uint16_t *counts,

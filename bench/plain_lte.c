@@ -57,8 +57,6 @@ INLINE uint32_t step_move(const struct set *set, size_t size, const uint8_t *src
     return 0;
 }
 
-#define MOVE(name, move, size) \
-    uint32_t name(const struct set *set, const void *src, size_t a, void *dst, size_t b) { return (void)a, (void)b, move(set, size, src, dst); }
 MOVE(divide_lte_bytes, divide_move, 1)
 MOVE(divide_lte_soft, divide_move, 4)
 MOVE(step_lte_bytes, step_move, 1)

@@ -51,8 +51,8 @@ module _ (s : Set) (p : s .profile ≡ 8) where
   pub back-lte : Listed s → (a : ℕ) → a < s .n → (M s a < s .n) × (L s (M s a) ≡ a)
   back-lte l a h = let e = each-once s l in (e .m-below a h, e .l-of-m a h)
 
--- "The walk may begin at any cell, and obeys condition 3 with no padding": from cell c on it writes L(c), L(c + 1), as many as there is room and cells for
--- and as many cells are behind it then
+-- "The walk may begin at any cell, and obeys condition 3 with no padding": from cell c on it writes L(c), L(c + 1) and so on, as many as there is
+-- room and cells for, and moves on by as many cells
 pub walk-lte : (w : Walk) (room : ℕ) → Listed (w .set) → w .set .profile ≡ 8 → w .cell ≤ w .set .n
     → (walkList Interleaver w room ≡ run (L (w .set)) (w .cell) (min room (w .set .n - w .cell)))
     × (walkCells Interleaver w room ≡ min room (w .set .n - w .cell))
