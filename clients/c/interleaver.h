@@ -64,6 +64,7 @@ static inline interleaver_set interleaver_set_lte(uint32_t k, uint32_t f1, uint3
 #define INTERLEAVER_DVB_PHASES 5654880u /* a phase is below this */
 #define INTERLEAVER_DVB_DELAY 2244u     /* an interleaver and a deinterleaver together are this many bytes late */
 
+/* What a call gives back: INTERLEAVER_DONE, or why it was refused. No call gives 8. */
 #define INTERLEAVER_DONE 0u
 #define INTERLEAVER_PROFILE 1u   /* the profile isn't 1 to 8, or it is 5 or 8 and the call is the walk for M */
 #define INTERLEAVER_BITS 2u      /* the bits aren't listed for the profile */
@@ -72,7 +73,6 @@ static inline interleaver_set interleaver_set_lte(uint32_t k, uint32_t f1, uint3
 #define INTERLEAVER_INPUT 5u     /* a block's input isn't n long, or its presence bytes aren't */
 #define INTERLEAVER_OUTPUT 6u    /* a block's output isn't n long, or sums or counts aren't, or a feed's output isn't as long as its input */
 #define INTERLEAVER_STORE 7u     /* a store isn't 1,122 bytes */
-#define INTERLEAVER_SEARCH 8u    /* the search for q passes 89: proved never to happen */
 #define INTERLEAVER_RECORD 9u    /* a cell is past the cell total, or a phase is 5,654,880 or more */
 #define INTERLEAVER_SHARED 10u   /* profile 8: two positions would share an address */
 #define INTERLEAVER_FACTORS 11u  /* profile 8: f1 or f2 is 0, or not below n */
@@ -88,19 +88,19 @@ uint32_t interleaver_test(const interleaver_set *set);
    Every set made of them is accepted. Refusal 3. */
 uint32_t interleaver_lte_factors(uint32_t k, uint32_t factors[4]);
 
-/* One address: *address = L(t), or M(k). For profile 5 it is looked up in a whole list that is walked first; M(k) of profile 8 is found by walking
-   there, k being met after up to n steps; every other is reckoned at once. Refusals 1, 2, 3, 16, 11, 10, 8, 4. */
+/* One address: *address = L(t), or M(k). L(t) of profile 5 is found by walking up to it, and M(k) of profile 5 in a whole list that is walked first; M(k)
+   of profile 8 by walking there, k being met after up to n steps; every other is reckoned at once. Refusals 1, 2, 3, 16, 11, 10, 4. */
 uint32_t interleaver_address_l(const interleaver_set *set, uint32_t t, uint32_t *address);
 uint32_t interleaver_address_m(const interleaver_set *set, uint32_t k, uint32_t *address);
 
 /* A walk: the addresses of L, or of M, from *cell on, until out is full or no cell is left; begin with *cell = 0, and hand *cell on, until
    *written is below out_len: then the walk is at its end. A cell is a place of the list, or for profile 5 of a rectangle, where some cells are padding
    and have no address. *written is how many addresses were written, *cells how many cells were passed. The rest of out
-   keeps what it held. Refusals of the walk for L 1, 2, 3, 16, 11, 10, 8, 9; of the walk for M 1 (profiles 5 and 8 too), 2, 3, 16, 9. */
+   keeps what it held. Refusals of the walk for L 1, 2, 3, 16, 11, 10, 9; of the walk for M 1 (profiles 5 and 8 too), 2, 3, 16, 9. */
 uint32_t interleaver_walk_l(const interleaver_set *set, uint32_t *cell, uint16_t *out, size_t out_len, uint32_t *written, uint32_t *cells);
 uint32_t interleaver_walk_m(const interleaver_set *set, uint32_t *cell, uint16_t *out, size_t out_len, uint32_t *written, uint32_t *cells);
 
-/* A whole block from src into dst, both n long. No symbol is looked at; a float's 32 bits are copied. Refusals 1, 2, 3, 16, 11, 10, 8, 5, 6. */
+/* A whole block from src into dst, both n long. No symbol is looked at; a float's 32 bits are copied. Refusals 1, 2, 3, 16, 11, 10, 5, 6. */
 uint32_t interleaver_interleave_bytes(const interleaver_set *set, const uint8_t *src, size_t src_len, uint8_t *dst, size_t dst_len);
 uint32_t interleaver_deinterleave_bytes(const interleaver_set *set, const uint8_t *src, size_t src_len, uint8_t *dst, size_t dst_len);
 uint32_t interleaver_interleave_soft(const interleaver_set *set, const float *src, size_t src_len, float *dst, size_t dst_len);
@@ -116,15 +116,13 @@ uint32_t interleaver_deinterleave_symbols(const interleaver_set *set, uint32_t w
    is a blank. sums and counts, n of each, are by input index: value t goes to L(t). A blank changes nothing; the first present value is stored
    with its bits unchanged, count 1; a later one is added with one rounding, and the count rises by one. Zero is a value. Before a first block
    every count is 0, and the sums may hold anything. A sum is exact while its values are whole eighths whose magnitudes total at most 2,097,152.
-   Refusals 1, 2, 3, 16, 11, 10, 8, 5, 6, 14, 13, 15, each decided over the whole block before the next. 13 looks at the sums where the block is
+   Refusals 1, 2, 3, 16, 11, 10, 5, 6, 14, 13, 15, each decided over the whole block before the next. 13 looks at the sums where the block is
    blank too; it looks neither at a blank's value nor at a sum whose count is 0. */
 uint32_t interleaver_add_received(const interleaver_set *set, const float *received, size_t received_len, const uint8_t *present,
                                   size_t present_len, float *sums, size_t sums_len, uint16_t *counts, size_t counts_len);
 
 /* One position, by input index: *sum and *count are what it holds. At a blank, *count is 0, and *sum keeps what it held. A sum that isn't finite is
-   read as it is. A reading asks a walk with no room to have the set tested: some 170 instructions in all for profile 3, 250 to 300 for profile 8, and
-   for profile 5, whose whole set-up that is, some 700 to 6,000; a program may as well look into its own sums and counts. Refusals 1, 2, 3, 16, 11, 10,
-   8, 4, 6. */
+   read as it is. Refusals 1, 2, 3, 16, 11, 10, 4, 6. */
 uint32_t interleaver_read_sum(const interleaver_set *set, const float *sums, size_t sums_len, const uint16_t *counts, size_t counts_len,
                               uint32_t position, float *sum, uint16_t *count);
 

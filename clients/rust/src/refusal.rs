@@ -45,7 +45,6 @@ refusals! {
     5 Input "a block's input isn't N long, N times the width for symbols, or its presence bytes aren't N"
     6 Output "a block's output isn't N long, N times the width for symbols, or sums or counts aren't N, or a feed's output isn't as long as its input"
     7 Store "a store isn't 1,122 bytes; never here, since a `Dvb` has its own"
-    8 Search "the search for q passes 89; proved never to happen"
     9 Record "a walk's cell is past the cell total"
     10 Shared "two positions would share an address, by the factors of profile 8"
     11 Factors "f1 or f2 of profile 8 is 0, or not below N"

@@ -1,13 +1,12 @@
 // M: one address, and the walk, a column of the input at a time. The walk divides when it is set up and never after. The
 // public functions are leaf functions: the crate above them tests a set first, and shows what they require.
 use laws::Leaf;
-use laws::Single;
 use residues::least;
 ghost use mathlib.Core.Path.{_≡_};
 ghost use Prim.Native.Nat.{ℕ, _+_, _/_, _%_, _<_};
 ghost use Rattle.laws.specs.Sized.{Sized};
 ghost use Rattle.laws.specs.Lanes.{Ran};
-ghost use Rattle.laws.specs.Walk.{back, LeafOf, SingleOf};
+ghost use Rattle.laws.specs.Walk.{back, LeafOf};
 ghost use Rattle.carrier.specs.Formula.{carrierM, carrierRule};
 ghost use Rattle.carrier.specs.Block.{Block, Whole};
 ghost use Rattle.carrier_columns.specs.Column.{ColumnAt, ColumnIn, ColumnStep};
@@ -158,15 +157,4 @@ pub fn walk(d: usize, n: usize, s: usize, cell: usize, out: &mut [u16]) -> Leaf
         written: count,
         cells: count,
     }
-}
-
-// M at any position: 4 past the last.
-pub fn one(d: usize, n: usize, s: usize, k: usize) -> Single
-    requires { ⌜ Whole d n s ⌝ }
-    ensures { λ r. ⌜ SingleOf n (carrierRule d n s) (carrierM d n s) k r ⌝ }
-{
-    if n <= k {
-        return Single::Barred(4);
-    }
-    Single::At(address(d, n, s, k))
 }

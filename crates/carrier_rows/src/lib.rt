@@ -1,13 +1,12 @@
 // L: one address, and the walk, a row of the output at a time. The walk divides when it is set up and never after. The
 // public functions are leaf functions: the crate above them tests a set first, and shows what they require.
 use laws::Leaf;
-use laws::Single;
 use residues::least;
 ghost use mathlib.Core.Path.{_≡_};
 ghost use Prim.Native.Nat.{ℕ, _+_, _-_, _*_, _/_, _%_, _<_};
 ghost use Rattle.laws.specs.Sized.{Sized};
 ghost use Rattle.laws.specs.Lanes.{Ran};
-ghost use Rattle.laws.specs.Walk.{LeafOf, SingleOf};
+ghost use Rattle.laws.specs.Walk.{LeafOf};
 ghost use Rattle.carrier.specs.Formula.{carrierL, carrierRule};
 ghost use Rattle.carrier.specs.Block.{Block, Whole};
 ghost use Rattle.carrier_rows.specs.Row.{RowAt, RowIn, RowStep};
@@ -202,15 +201,4 @@ pub fn walk(d: usize, n: usize, s: usize, cell: usize, out: &mut [u16]) -> Leaf
         written: count,
         cells: count,
     }
-}
-
-// L at any position: 4 past the last.
-pub fn one(d: usize, n: usize, s: usize, t: usize) -> Single
-    requires { ⌜ Whole d n s ⌝ }
-    ensures { λ r. ⌜ SingleOf n (carrierRule d n s) (carrierL d n s) t r ⌝ }
-{
-    if n <= t {
-        return Single::Barred(4);
-    }
-    Single::At(address(d, n, s, t))
 }

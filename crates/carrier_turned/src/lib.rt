@@ -4,13 +4,12 @@
 // functions are leaf functions: the crate above them tests a set first, and shows what they require.
 use carrier::turn_of;
 use laws::Leaf;
-use laws::Single;
 use residues::least;
 ghost use mathlib.Core.Path.{_≡_};
 ghost use Prim.Native.Nat.{ℕ, _+_, _-_, _%_, _<_};
 ghost use Rattle.laws.specs.Fill.{Filled};
 ghost use Rattle.laws.specs.Lanes.{Ran};
-ghost use Rattle.laws.specs.Walk.{LeafOf, SingleOf, back};
+ghost use Rattle.laws.specs.Walk.{LeafOf, back};
 ghost use Rattle.carrier_turned.specs.Turned.{turnedL, turnedM, Within, ruleBy, Spatial, TakenOff, off};
 
 // A block of a spatial stream: d, N and s of the two steps, and bits, r and the stream of the third.
@@ -109,34 +108,28 @@ pub fn walk_m(b: Stream, cell: usize, out: &mut [u16]) -> Leaf
     }
 }
 
-// L at any position: 4 past the last.
-pub fn one_l(b: Stream, t: usize) -> Single
-    requires { ⌜ Spatial b ⌝ }
-    ensures { λ r. ⌜ SingleOf (b .n) (ruleBy b) (ruleBy b .l) t r ⌝ }
+// L(t), for t below N.
+pub fn one_l(b: Stream, t: usize) -> usize
+    requires { ⌜ Spatial b × (t < b .n) ⌝ }
+    ensures { λ r. ⌜ r ≡ ruleBy b .l t ⌝ }
 {
-    if b.n <= t {
-        return Single::Barred(4);
-    }
     let v = turn_of(b.bits, b.r, b.stream);
     let seam = b.n - v;
     if t < seam {
-        return Single::At(carrier_rows::address(b.d, b.n, b.s, t + v));
+        return carrier_rows::address(b.d, b.n, b.s, t + v);
     }
-    Single::At(carrier_rows::address(b.d, b.n, b.s, t - seam))
+    carrier_rows::address(b.d, b.n, b.s, t - seam)
 }
 
-// M at any position: 4 past the last.
-pub fn one_m(b: Stream, k: usize) -> Single
-    requires { ⌜ Spatial b ⌝ }
-    ensures { λ r. ⌜ SingleOf (b .n) (ruleBy b) (ruleBy b .m) k r ⌝ }
+// M(k), for k below N.
+pub fn one_m(b: Stream, k: usize) -> usize
+    requires { ⌜ Spatial b × (k < b .n) ⌝ }
+    ensures { λ r. ⌜ r ≡ ruleBy b .m k ⌝ }
 {
-    if b.n <= k {
-        return Single::Barred(4);
-    }
     let v = turn_of(b.bits, b.r, b.stream);
     let a = carrier_columns::address(b.d, b.n, b.s, k);
     if a < v {
-        return Single::At(a + (b.n - v));
+        return a + (b.n - v);
     }
-    Single::At(a - v)
+    a - v
 }

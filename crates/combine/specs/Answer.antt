@@ -10,9 +10,8 @@ use lib.ListN.{length}
 use Rattle.laws.specs.Outcome.{Outcome, done, refused, apart, Line, line, judged, after}
 use Rattle.sets.specs.declared.Set.{Set}
 use Rattle.sets.specs.declared.Refusal.{Refusal}
-use Rattle.sets.specs.Verdict.{refusal}
+use Rattle.sets.specs.Verdict.{setLines, refusal}
 use Rattle.families.specs.Rules.{L}
-use Rattle.walks.specs.Answer.{planLines}
 use Rattle.positions.specs.declared.Running.{Running}
 use Rattle.positions.specs.Heard.{Reception, Kept, held}
 use Rattle.adders.specs.Lines.{valueLines}
@@ -29,9 +28,9 @@ abbrev pub lentLines : Set → Reception → Kept → List Line
 lentLines s b h =
     line 5 (not (bothLong (s .n) (b .received) (b .present))) ∷ line 6 (not (bothLong (s .n) (h .sums) (h .counts))) ∷ valueLines (L s) (s .n) b h
 
--- adding a block: 1, 2, 3, 16, 11, 10, 8, and these
+-- adding a block: 1, 2, 3, 16, 11, 10, and these
 unfoldable pub addLines : Set → Reception → Kept → List Line
-addLines s b h = planLines s ++ lentLines s b h
+addLines s b h = setLines s ++ lentLines s b h
 
 -- what adding a block has to say
 unfoldable pub addedOf : Set → Reception → Kept → Outcome Refusal (Unit {0})
@@ -54,9 +53,9 @@ pub data Standing : Type 0 where
 abbrev pub toldOf : Running → Standing
 toldOf r = cond (eqb (r .count) 0) blank (soft r)
 
--- reading position k: 1, 2, 3, 16, 11, 10, 8, 4 a position that is N or more, 6 the sums or the counts aren't N
+-- reading position k: 1, 2, 3, 16, 11, 10, 4 a position that is N or more, 6 the sums or the counts aren't N
 unfoldable pub readLines : Set → Kept → ℕ → List Line
-readLines s h k = planLines s ++ (line 4 (leb (s .n) k) ∷ line 6 (not (bothLong (s .n) (h .sums) (h .counts))) ∷ [])
+readLines s h k = setLines s ++ (line 4 (leb (s .n) k) ∷ line 6 (not (bothLong (s .n) (h .sums) (h .counts))) ∷ [])
 
 unfoldable pub readOf : Set → Kept → ℕ → Outcome Refusal Standing
 readOf s h k = judged (refusal s) (readLines s h k) (toldOf (held h k))

@@ -1,4 +1,4 @@
--- What stands behind each return of the two calls: the table, the judgement, the loop that adds.
+-- What stands behind each return of adding a block: its judgement, the table, the values, the loop that adds.
 use Prim.Native.Nat.{ℕ, _<_}
 use mathlib.Core.Bool.{Bool, not}
 use mathlib.Core.List.{List, _∷_, _++_, append-assoc}
@@ -8,20 +8,17 @@ use native.Mathlib.Omega.{arith}
 use lib.Ieee.{Float, nan}
 use lib.ListN.{length, getD}
 use borrow.Author.Tests.{ltb-false}
-use Rattle.laws.specs.Outcome.{done, refused, Line, line, clear, stopped, first, judged, after, first-clear, refused-front, kept-front, done-front}
+use Rattle.laws.specs.Outcome.{Outcome, done, refused, Line, line, clear, stopped, first, judged, after, first-clear, refused-front, kept-front, done-front}
 use Rattle.laws.specs.Run.{run, run-same}
 use Rattle.laws.specs.Move.{scatter, scatter-same}
 use Rattle.laws.specs.Loop.{by}
 use Rattle.laws.specs.Perm.{Perm, once}
 use Rattle.sets.specs.declared.Set.{Set}
 use Rattle.sets.specs.declared.Refusal.{Refusal}
-use Rattle.sets.specs.Verdict.{refusal}
+use Rattle.sets.specs.Verdict.{setLines, refusal}
 use Rattle.families.specs.Rules.{L, M}
-use Rattle.walks.specs.Answer.{planLines}
-use Rattle.tables.specs.declared.Moved.{Moved}
-use Rattle.tables.specs.declared.Moved.the-variants.{Done, Refused}
-use Rattle.tables.specs.Answer.{lengthLines, blockLines, movedOf}
-use Rattle.tables.specs.Passed.{Filled, its-perm, its-lengths, refused-answer, done-answer}
+use Rattle.tables.specs.Answer.{lengthLines, blockLines, movedOf, Judged}
+use Rattle.tables.specs.Passed.{Tabled, its-perm, its-lengths}
 use Rattle.positions.specs.declared.Running.{Running}
 use Rattle.positions.specs.Heard.{Reception, Kept, held, heard}
 use Rattle.adders.specs.Any.{any, any-none}
@@ -49,29 +46,34 @@ module _ (s : Set) (b : Reception) (h : Kept) where
   pub lines-are : addLines s b h ≡ blockLines s (s .n) inputOf outputOf ++ valueLines (L s) (s .n) b h
   unfolding addLines blockLines
   lines-are =
-      ap₂ (λ (x y : Bool). planLines s ++ (line 5 (not x) ∷ line 6 (not y) ∷ valueLines (L s) (s .n) b h))
+      ap₂ (λ (x y : Bool). setLines s ++ (line 5 (not x) ∷ line 6 (not y) ∷ valueLines (L s) (s .n) b h))
       (sym (off-both (s .n) (length (b .received)) (length (b .present)))) (sym (off-both (s .n) (length (h .sums)) (length (h .counts))))
-      ∙ sym (append-assoc (planLines s) (lengthLines (s .n) inputOf outputOf) (valueLines (L s) (s .n) b h))
+      ∙ sym (append-assoc (setLines s) (lengthLines (s .n) inputOf outputOf) (valueLines (L s) (s .n) b h))
 
-  -- every length is N where `tables` says done
-  pub all-long : movedOf s (s .n) inputOf outputOf ≡ done tt → Long (s .n) b h
+  -- judged by these, and nothing is in the way
+  abbrev pub Lent : Type 0
+  Lent = Judged s (s .n) inputOf outputOf
+
+  -- then every length is N
+  pub all-long : Lent → Long (s .n) b h
   all-long e =
       let l = its-lengths s (s .n) inputOf outputOf e in
       let i = both-on (s .n) (length (b .received)) (length (b .present)) (l .0) in
       let o = both-on (s .n) (length (h .sums)) (length (h .counts)) (l .1) in
       record { received = i .0; present = i .1; sums = o .0; counts = o .1 }
 
-  pub filled-so : {i o : ℕ} {table : List ℕ} {r : Moved} → i ≡ inputOf → o ≡ outputOf → Filled s (s .n) i o table r → Filled s (s .n) inputOf outputOf table r
-  filled-so x y p = rw (sym x, sym y) p
+  -- what judging says is of these lengths
+  pub said-so : {i o : ℕ} {x : Outcome Refusal (Unit {0})} → i ≡ inputOf → o ≡ outputOf → x ≡ movedOf s (s .n) i o → x ≡ movedOf s (s .n) inputOf outputOf
+  said-so p q e = e ∙ ap₂ (movedOf s (s .n)) p q
 
-  -- the table is not had: so is the call refused, and all is as it was
-  module _ {table : List ℕ} {r : Moved} (p : Filled s (s .n) inputOf outputOf table r) {x : Refusal} (e : r ≡ Refused x) where
+  -- the block is not taken: so is the call refused, and all is as it was
+  module _ {x : Refusal} (e : refused x ≡ movedOf s (s .n) inputOf outputOf) where
     refusing : movedOf s (s .n) inputOf outputOf ≡ refused x
-    refusing = sym (refused-answer p e)
+    refusing = sym e
 
-    pub table-refused : refused x ≡ addedOf s b h
+    pub block-refused : refused x ≡ addedOf s b h
     unfolding addedOf
-    table-refused =
+    block-refused =
         sym (ap (λ (ls : List Line). judged (refusal s) ls tt) lines-are ∙ refused-front (refusal s) tt (blockLines s (s .n) inputOf outputOf) (valueLines (L s) (s .n) b h) refusing tt)
 
     kept-then : {B : Type 0} (new old : B) → old ≡ after (addLines s b h) new old
@@ -86,31 +88,29 @@ module _ (s : Set) (b : Reception) (h : Kept) where
     unfolding countsOf
     counts-kept = kept-then (countsBy (L s) (s .n) b h) (h .counts)
 
-  -- the table is had: all is as long as it must be, and the values decide
-  module _ {table : List ℕ} {r : Moved} (p : Filled s (s .n) inputOf outputOf table r) (e : r ≡ Done) where
+  -- it is, and the table holds L: all is as long as it must be, and the values decide
+  module _ {table : List ℕ} (e : Lent) (t : Tabled s table) where
     perm : Perm (s .n) (L s) (M s)
-    perm = its-perm s (s .n) inputOf outputOf (sym (done-answer p e))
+    perm = its-perm s (s .n) inputOf outputOf e
 
     long : Long (s .n) b h
-    long = all-long (sym (done-answer p e))
+    long = all-long e
 
     pub fits-table : Fitting table b h
-    fits-table =
-        let t = p .tabled e in
-        record {
-          presences = long .present ∙ sym (long .received);
-          sums = long .sums ∙ sym (long .received);
-          counts = long .counts ∙ sym (long .received);
-          room = omega (arith, t .room, long .received);
-          within = λ k l. omega (arith, long .received, t .within k (omega (arith, long .received)));
-        }
+    fits-table = record {
+      presences = long .present ∙ sym (long .received);
+      sums = long .sums ∙ sym (long .received);
+      counts = long .counts ∙ sym (long .received);
+      room = omega (arith, t .room, long .received);
+      within = λ k l. omega (arith, long .received, t .within k (omega (arith, long .received)));
+    }
 
     -- the lines by the table are the lines by L
     by-values : first (addLines s b h) ≡ first (valueLines (by table) (length (b .received)) b h)
     by-values =
         ap first lines-are
-        ∙ done-front (refusal s) tt tt (blockLines s (s .n) inputOf outputOf) (valueLines (L s) (s .n) b h) (sym (done-answer p e))
-        ∙ ap first (sym (lines-same (by table) (L s) (s .n) b h (p .tabled e .holds)) ∙ ap (λ (n : ℕ). valueLines (by table) n b h) (sym (long .received)))
+        ∙ done-front (refusal s) tt tt (blockLines s (s .n) inputOf outputOf) (valueLines (L s) (s .n) b h) e
+        ∙ ap first (sym (lines-same (by table) (L s) (s .n) b h (t .holds)) ∙ ap (λ (n : ℕ). valueLines (by table) n b h) (sym (long .received)))
 
     module _ {number : ℕ} (j : number ≡ ruled (first (valueLines (by table) (length (b .received)) b h))) where
       -- a line of the values applies
@@ -143,10 +143,10 @@ module _ (s : Set) (b : Reception) (h : Kept) where
           once = λ i k hi hk q.
               let a : i < s .n = omega (arith, long .received) in
               let c : k < s .n = omega (arith, long .received) in
-              once perm i k a c (sym (p .tabled e .holds i a) ∙ q ∙ p .tabled e .holds k c);
-          spare = λ t l.
-              ltb-false 65535 (heardAt (by table) b h t .count)
-              (any-none (isFull (by table) b h) (length (b .received)) (first-clear (valueLines (by table) (length (b .received)) b h) goes .1 .1 .0) t l);
+              once perm i k a c (sym (t .holds i a) ∙ q ∙ t .holds k c);
+          spare = λ k l.
+              ltb-false 65535 (heardAt (by table) b h k .count)
+              (any-none (isFull (by table) b h) (length (b .received)) (first-clear (valueLines (by table) (length (b .received)) b h) goes .1 .1 .0) k l);
         }
 
         pub values-done : done tt ≡ addedOf s b h
@@ -161,8 +161,8 @@ module _ (s : Set) (b : Reception) (h : Kept) where
             ap (λ (n : ℕ). scatter (by table) n z (run (λ t. part (heardAt (by table) b h t)) 0 n) old) (long .received)
             ∙ ap (λ (xs : List _). scatter (by table) (s .n) z xs old)
             (run-same (λ t. part (heardAt (by table) b h t)) (λ t. part (heardAt (L s) b h t)) 0 (s .n)
-            (λ t g. ap (λ (k : ℕ). part (heard (getD (b .present) t 0) (getD (b .received) t nan) (held h k))) (p .tabled e .holds t (omega arith))))
-            ∙ scatter-same (by table) (L s) (s .n) z (run (λ t. part (heardAt (L s) b h t)) 0 (s .n)) old (p .tabled e .holds)
+            (λ i g. ap (λ (k : ℕ). part (heard (getD (b .present) i 0) (getD (b .received) i nan) (held h k))) (t .holds i (omega arith))))
+            ∙ scatter-same (by table) (L s) (s .n) z (run (λ t. part (heardAt (L s) b h t)) 0 (s .n)) old (t .holds)
 
         pub sums-done : {got : List Float} → got ≡ sumsBy (by table) (length (b .received)) b h → got ≡ sumsOf s b h
         unfolding sumsOf

@@ -1,4 +1,4 @@
--- What stands behind each return of a reading: the walk from the first cell, which tells 1, 2, 3, 16, 11, 10 and 8, then the position and the two lengths.
+-- What stands behind each return of a reading: the test of the set, which tells 1, 2, 3, 16, 11 and 10, then the position and the two lengths.
 use Prim.Native.Nat.{ℕ, _≤_, _<_}
 use mathlib.Core.Bool.{not}
 use mathlib.Core.List.{List, [], _∷_}
@@ -7,14 +7,11 @@ use mathlib.Core.Path.{_≡_, sym, ap, _∙_}
 use lib.Dec.{leb}
 use lib.ListN.{length}
 use borrow.Author.Tests.{eq-eqb, ne-eqb, le-leb, lt-leb}
-use Rattle.laws.specs.declared.Way.the-variants.{Interleaver}
-use Rattle.laws.specs.Outcome.{done, refused, Line, line, clear, first, clear-then, refused-front}
+use Rattle.laws.specs.Outcome.{done, refused, Line, line, first, refused-front}
 use Rattle.sets.specs.declared.Set.{Set}
 use Rattle.sets.specs.declared.Refusal.{Refusal}
-use Rattle.sets.specs.Verdict.{refusal}
-use Rattle.walks.specs.Answer.{planLines, walkedOf, walkValues}
-use Rattle.walks.specs.Whole.{begin}
-use Rattle.tables.specs.Passed.{walked-refused}
+use Rattle.sets.specs.Verdict.{setLines, refusal, verdictOf}
+use Rattle.sets.specs.Admits.{Accepted, accepted-front}
 use Rattle.positions.specs.Heard.{Kept, held}
 use Rattle.combine.specs.Answer.{toldOf, bothLong, readLines, readOf}
 use Rattle.adders.specs.Lengths.{oneOff, off-both}
@@ -23,14 +20,14 @@ module _ (s : Set) (h : Kept) (k : ℕ) where
   abbrev behind : List Line
   behind = line 4 (leb (s .n) k) ∷ line 6 (not (bothLong (s .n) (h .sums) (h .counts))) ∷ []
 
-  pub walk-refuses : {x : Refusal} (room : ℕ) → refused x ≡ walkedOf Interleaver (begin s) room → refused x ≡ readOf s h k
-  unfolding readOf readLines
-  walk-refuses room e = sym (refused-front (refusal s) (walkValues Interleaver (begin s) room) (planLines s) behind (walked-refused s room e) (toldOf (held h k)))
+  pub set-refuses : {x : Refusal} → verdictOf s ≡ refused x → refused x ≡ readOf s h k
+  unfolding readOf readLines verdictOf
+  set-refuses e = sym (refused-front (refusal s) tt (setLines s) behind e (toldOf (held h k)))
 
-  module _ (p : first (planLines s) ≡ clear) where
+  module _ (a : Accepted s) where
     front : first (readLines s h k) ≡ first behind
     unfolding readLines
-    front = clear-then (planLines s) behind p
+    front = accepted-front s behind a
 
     pub is-four : {x : Refusal} → s .n ≤ k → x ≡ refusal s 4 → refused x ≡ readOf s h k
     unfolding readOf

@@ -1,5 +1,6 @@
 -- The refusals of the two calls in the sentences of change request 2 and in its order, with 16 of request 4 and 11 and 10 of request 6 after 3: 1, 2, 3, 16,
--- 11, 10, 8, 5, 6, 14, 13, 15 for a block that is added, 1, 2, 3, 16, 11, 10, 8, 4, 6 for a position that is read. A number is said exactly when its sentence is the first that holds, and then all that is stored is what it was.
+-- 11, 10, 5, 6, 14, 13, 15 for a block that is added, 1, 2, 3, 16, 11, 10, 4, 6 for a position that is read. A number is said exactly when its sentence
+-- is the first that holds, and then all that is stored is what it was.
 use Prim.Native.Nat.{ℕ, _+_, _≤_, _<_}
 use mathlib.Core.Bool.{Bool, true, false, not, _&&_}
 use mathlib.Core.List.{List, [], _∷_, _++_}
@@ -11,18 +12,15 @@ use lib.Dec.{eqb}
 use lib.Ieee.{nan}
 use lib.ListN.{length, getD}
 use borrow.Author.Tests.{eqb-true, eqb-false, ltb-true, ltb-false, not-false, not-true, eq-eqb, lt-leb}
-use Rattle.laws.specs.Outcome.{done, refused, Line, line, clear-then, clear-first}
+use Rattle.laws.specs.Outcome.{done, refused, Line, line, clear-first}
 use Rattle.laws.specs.Members.{both}
 use Rattle.laws.specs.Sentences.{Sentence, sentence, FirstTrue, Told, none, more, told-reach, said-exactly, kept-alone}
-use Rattle.laws.specs.Told.{NoneTrue, told-clear}
+use Rattle.laws.specs.Told.{NoneTrue, told-clear, told-join}
 use Rattle.sets.specs.declared.Set.{Set}
-use Rattle.sets.specs.Admits.{Accepted}
+use Rattle.sets.specs.Admits.{Accepted, accepted-front}
 use Rattle.sets.specs.Verdict.{refusal}
-use Rattle.sets.specs.Refusals.{refusals-apart}
+use Rattle.sets.specs.Refusals.{setSentences, set-told, refusals-apart}
 use Rattle.families.specs.Rules.{L}
-use Rattle.walks.specs.Answer.{planLines}
-use Rattle.walks.specs.Served as served
-use Rattle.walks.specs.Refusals.{planSentences, plan-told}
 use Rattle.positions.specs.Heard.{Reception, Kept, kept, held, one, count-rise}
 use Rattle.adders.specs.Any.{any, Somewhere, any-some, any-none}
 use Rattle.adders.specs.Adding.{sumsBy, countsBy}
@@ -42,13 +40,13 @@ lentSentences s b h =
     ∷ sentence 15 (Somewhere (λ t. 65535 < held h (L s t) .count + one (getD (b .present) t 0)) (s .n))
     ∷ []
 
--- adding a block: 1, 2, 3, 16, 11, 10, 8, and these
+-- adding a block: 1, 2, 3, 16, 11, 10, and these
 abbrev pub addSentences : Set → Reception → Kept → List Sentence
-addSentences s b h = planSentences s ++ lentSentences s b h
+addSentences s b h = setSentences s ++ lentSentences s b h
 
 -- reading a position. 4: it is N or more; 6: the sums or the counts aren't N long
 abbrev pub readSentences : Set → Kept → ℕ → List Sentence
-readSentences s h k = planSentences s ++ (sentence 4 (s .n ≤ k) ∷ sentence 6 ((length (h .sums) ≢ s .n) ⊎ (length (h .counts) ≢ s .n)) ∷ [])
+readSentences s h k = setSentences s ++ (sentence 4 (s .n ≤ k) ∷ sentence 6 ((length (h .sums) ≢ s .n) ⊎ (length (h .counts) ≢ s .n)) ∷ [])
 
 -- a line that asks whether two lengths are n
 told-long : {C : Type 0} {ls : List Line} {ps : List Sentence} (k n x y : ℕ)
@@ -88,11 +86,11 @@ lent-told s b h =
 
 add-told : (s : Set) (b : Reception) (h : Kept) → Told (Unit {0}) (addLines s b h) (addSentences s b h)
 unfolding addLines
-add-told s b h = plan-told s (lent-told s b h)
+add-told s b h = told-join (set-told s) (lent-told s b h)
 
 read-told : (s : Set) (h : Kept) (k : ℕ) → Told (Unit {0}) (readLines s h k) (readSentences s h k)
 unfolding readLines
-read-told s h k = plan-told s (told-reach 4 (s .n) k (told-long 6 (s .n) (length (h .sums)) (length (h .counts)) none))
+read-told s h k = told-join (set-told s) (told-reach 4 (s .n) k (told-long 6 (s .n) (length (h .sums)) (length (h .counts)) none))
 
 -- a number is said exactly when its sentence holds and none before it does
 pub refusal-order-add : (s : Set) (b : Reception) (h : Kept) (k : ℕ) → (addedOf s b h ≡ refused (refusal s k)) ↔ FirstTrue (addSentences s b h) k
@@ -115,9 +113,9 @@ stored-kept s b h k f =
 pub add-served : (s : Set) (b : Reception) (h : Kept) → Accepted s → NoneTrue (lentSentences s b h) → addedOf s b h ≡ done tt
 unfolding addedOf addLines
 add-served s b h a n =
-    rw (clear-then (planLines s) (lentLines s b h) (served.plan-clear s a) ∙ clear-first (lentLines s b h) (told-clear (lent-told {C = Unit {0}} s b h) tt .1 n))
+    rw (accepted-front s (lentLines s b h) a ∙ clear-first (lentLines s b h) (told-clear (lent-told {C = Unit {0}} s b h) tt .1 n))
 
 pub read-served : (s : Set) (h : Kept) (k : ℕ) → Accepted s → length (h .sums) ≡ s .n → length (h .counts) ≡ s .n → k < s .n → readOf s h k ≡ done (toldOf (held h k))
 unfolding readOf readLines
 read-served s h k a i o l =
-    rw (clear-then (planLines s) _ (served.plan-clear s a), lt-leb (s .n) k l, eq-eqb (length (h .sums)) (s .n) i, eq-eqb (length (h .counts)) (s .n) o)
+    rw (accepted-front s _ a, lt-leb (s .n) k l, eq-eqb (length (h .sums)) (s .n) i, eq-eqb (length (h .counts)) (s .n) o)

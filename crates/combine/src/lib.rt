@@ -4,18 +4,19 @@
 use positions::Running;
 use sets::Refusal;
 use sets::Set;
+use sets::Verdict;
 use tables::LARGE;
 use tables::MIDDLE;
 use tables::Moved;
 use tables::SMALL;
-use walks::Walk;
-use walks::Walked;
 ghost use mathlib.Core.Path.{_≡_};
+ghost use Prim.Native.Nat.{_≤_};
+ghost use lib.ListN.{length};
 ghost use Rattle.positions.specs.Heard.{reception, kept};
 ghost use Rattle.laws.specs.Outcome.{done};
 ghost use Rattle.tables.specs.Answer.{sayMoved};
-ghost use Rattle.tables.specs.Passed.{Roomy};
 ghost use Rattle.combine.specs.Answer.{addedOf, sumsOf, countsOf, readOf, sayReading, toldOf};
+ghost use Rattle.combine.specs.Passed.{Lent};
 
 // What stands at a position: a soft value, which is the running sum and how many values it is of; or a blank, where the count is 0.
 pub enum Reading {
@@ -24,7 +25,7 @@ pub enum Reading {
     Refused(Refusal),
 }
 
-// Adds a block by a lent table.
+// Adds a judged block by a lent table.
 fn add_by(
     set: Set,
     table: &mut [u16],
@@ -33,7 +34,7 @@ fn add_by(
     sums: &mut [f32],
     counts: &mut [u16],
 ) -> Moved
-    requires { ⌜ Roomy set (now table) ⌝ }
+    requires { ⌜ Lent set (reception (now received) (now present)) (kept (now sums) (now counts)) × (set .n ≤ length (now table)) ⌝ }
     ensures answer { λ r. ⌜ sayMoved r ≡ addedOf set
         (reception (now (received .entry)) (now (present .entry))) (kept (now (sums .entry)) (now (counts .entry))) ⌝ }
     ensures sums { λ r. ⌜ now (sums .exit) ≡ sumsOf set
@@ -41,31 +42,24 @@ fn add_by(
     ensures counts { λ r. ⌜ now (counts .exit) ≡ countsOf set
         (reception (now (received .entry)) (now (present .entry))) (kept (now (sums .entry)) (now (counts .entry))) ⌝ }
 {
-    let n = set.n as usize;
-    let input = adders::off(n, received.len(), present.len());
-    let output = adders::off(n, sums.len(), counts.len());
-    match tables::fill(set, n, input, output, table) {
-        Moved::Refused(x) => Moved::Refused(x),
-        Moved::Done => {
-            let number = adders::judge_by(table, received, present, sums, counts);
-            if number != 0 {
-                return Moved::Refused(sets::refusal_of(set, number));
-            }
-            adders::add_by(table, received, present, sums, counts);
-            Moved::Done
-        }
+    tables::fill(set, table);
+    let number = adders::judge_by(table, received, present, sums, counts);
+    if number != 0 {
+        return Moved::Refused(sets::refusal_of(set, number));
     }
+    adders::add_by(table, received, present, sums, counts);
+    Moved::Done
 }
 
-// Adds a received block to what is stored: value t at input index L(t). A blank changes nothing; the first present value is stored as it is, count 1;
-// later ones are added with one rounding each, and the count rises by one. Refusals 1, 2, 3, 16, 11, 10, 8, 5, 6, 14, 13, 15.
-pub fn add(
+// Adds a judged block by the smallest table that holds N.
+fn add_judged(
     set: Set,
     received: &[f32],
     present: &[u8],
     sums: &mut [f32],
     counts: &mut [u16],
 ) -> Moved
+    requires { ⌜ Lent set (reception (now received) (now present)) (kept (now sums) (now counts)) ⌝ }
     ensures answer { λ r. ⌜ sayMoved r ≡ addedOf set
         (reception (now (received .entry)) (now (present .entry))) (kept (now (sums .entry)) (now (counts .entry))) ⌝ }
     ensures sums { λ r. ⌜ now (sums .exit) ≡ sumsOf set
@@ -86,6 +80,32 @@ pub fn add(
     add_by(set, &mut table, received, present, sums, counts)
 }
 
+// Adds a received block to what is stored: value t at input index L(t). A blank changes nothing; the first present value is stored as it is, count 1;
+// later ones are added with one rounding each, and the count rises by one. Refusals 1, 2, 3, 16, 11, 10, 5, 6, 14, 13, 15; up to 6 before anything
+// is walked.
+pub fn add(
+    set: Set,
+    received: &[f32],
+    present: &[u8],
+    sums: &mut [f32],
+    counts: &mut [u16],
+) -> Moved
+    ensures answer { λ r. ⌜ sayMoved r ≡ addedOf set
+        (reception (now (received .entry)) (now (present .entry))) (kept (now (sums .entry)) (now (counts .entry))) ⌝ }
+    ensures sums { λ r. ⌜ now (sums .exit) ≡ sumsOf set
+        (reception (now (received .entry)) (now (present .entry))) (kept (now (sums .entry)) (now (counts .entry))) ⌝ }
+    ensures counts { λ r. ⌜ now (counts .exit) ≡ countsOf set
+        (reception (now (received .entry)) (now (present .entry))) (kept (now (sums .entry)) (now (counts .entry))) ⌝ }
+{
+    let n = set.n as usize;
+    let input = adders::off(n, received.len(), present.len());
+    let output = adders::off(n, sums.len(), counts.len());
+    match tables::judge(set, n, input, output) {
+        Moved::Refused(x) => Moved::Refused(x),
+        Moved::Done => add_judged(set, received, present, sums, counts),
+    }
+}
+
 // What stands at a position.
 fn reading_at(held: Running) -> Reading
     ensures { λ r. ⌜ sayReading r ≡ done (toldOf held) ⌝ }
@@ -96,18 +116,13 @@ fn reading_at(held: Running) -> Reading
     Reading::Soft(held)
 }
 
-// Reads a position, by input index. Refusals 1, 2, 3, 16, 11, 10, 8, 4, 6.
+// Reads a position, by input index. Refusals 1, 2, 3, 16, 11, 10, 4, 6.
 pub fn read(set: Set, sums: &[f32], counts: &[u16], position: u32) -> Reading
     ensures { λ r. ⌜ sayReading r ≡ readOf set (kept (now (sums .entry)) (now (counts .entry))) position ⌝ }
 {
-    let mut none = [0u16; 0];
-    match walks::walk_l(Walk { set, cell: 0 }, &mut none) {
-        Walked::Refused(x) => Reading::Refused(x),
-        Walked::Done {
-            written: _,
-            next: _,
-            cells: _,
-        } => {
+    match sets::test(set) {
+        Verdict::Refused(x) => Reading::Refused(x),
+        Verdict::Accepted => {
             if position >= set.n {
                 return Reading::Refused(sets::refusal_of(set, 4));
             }

@@ -27,7 +27,7 @@ pub extern "C" fn interleaver_lte_factors(k: u32, factors: &mut [u32; FACTORS]) 
     flat::given(lte::factors(k), factors)
 }
 
-// L(t). Refusals 1, 2, 3, 16, 11, 10, 8, 4.
+// L(t). Refusals 1, 2, 3, 16, 11, 10, 4.
 #[no_mangle]
 pub extern "C" fn interleaver_address_l(set: &[u32; SET], t: u32, address: &mut u32) -> u32
     ensures number { λ r. ⌜ r ≡ numberOf (foundOf Interleaver (setOf (now (set .entry))) t) ⌝ }
@@ -37,7 +37,7 @@ pub extern "C" fn interleaver_address_l(set: &[u32; SET], t: u32, address: &mut 
     lent::lists::find(Way::Interleaver, set, t, address)
 }
 
-// M(k). Refusals 1, 2, 3, 16, 11, 10, 8, 4.
+// M(k). Refusals 1, 2, 3, 16, 11, 10, 4.
 #[no_mangle]
 pub extern "C" fn interleaver_address_m(set: &[u32; SET], k: u32, address: &mut u32) -> u32
     ensures number { λ r. ⌜ r ≡ numberOf (foundOf Deinterleaver (setOf (now (set .entry))) k) ⌝ }
@@ -47,7 +47,7 @@ pub extern "C" fn interleaver_address_m(set: &[u32; SET], k: u32, address: &mut 
     lent::lists::find(Way::Deinterleaver, set, k, address)
 }
 
-// The walk for L. Refusals 1, 2, 3, 16, 11, 10, 8, 9.
+// The walk for L. Refusals 1, 2, 3, 16, 11, 10, 9.
 #[no_mangle]
 pub extern "C" fn interleaver_walk_l(
     set: &[u32; SET],

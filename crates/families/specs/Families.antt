@@ -1,12 +1,11 @@
 -- What each family's leaf requires of an accepted set, and that the rule it serves is the set's.
 use Prim.Native.Nat.{ℕ}
 use mathlib.Core.List.{List}
-use mathlib.Core.Path.{_≡_, sym, ap₂, _∙_, subst}
+use mathlib.Core.Path.{_≡_, sym, ap, ap₂, _∙_, subst}
 use native.Mathlib.Omega.{arith}
 use Rattle.laws.specs.declared.Way.{Way}
 use Rattle.laws.specs.declared.Leaf.{Leaf}
-use Rattle.laws.specs.declared.Single.{Single}
-use Rattle.laws.specs.Walk.{Rule, inWay, LeafOf, SingleOf}
+use Rattle.laws.specs.Walk.{Rule, inWay, LeafOf}
 use Rattle.sets.specs.declared.Set.{Set}
 use Rattle.profiles.specs.declared.Family.{Family}
 use Rattle.profiles.specs.declared.Family.the-variants.{Carrier, Spatial, Turbo, Quadratic}
@@ -53,10 +52,8 @@ module _ {s : Set} (t : Taken s Spatial) {b : Stream} (e : b ≡ streamOf s) whe
   spatial-leaf asked {cell} {old} {new} {leaf} o =
       subst (λ (b : Stream). LeafOf (b .n) (inWay asked (b .n) (ruleBy b)) cell old new leaf) e o
 
-  pub spatial-single : (asked : Way) {x : ℕ} {one : Single} → SingleOf (b .n) (ruleBy b) (inWay asked (b .n) (ruleBy b) .l) x one
-      → SingleOf (s .n) (familyRule Spatial s) (inWay asked (s .n) (familyRule Spatial s) .l) x one
-  spatial-single asked {x} {one} o =
-      subst (λ (b : Stream). SingleOf (b .n) (ruleBy b) (inWay asked (b .n) (ruleBy b) .l) x one) e o
+  pub spatial-one : (asked : Way) (x : ℕ) → inWay asked (b .n) (ruleBy b) .l x ≡ inWay asked (s .n) (familyRule Spatial s) .l x
+  spatial-one asked x = ap (λ (b : Stream). inWay asked (b .n) (ruleBy b) .l x) e
 
 module _ {s : Set} (t : Taken s Turbo) where
   pub turbo-sized : Size (s .n)
@@ -81,10 +78,8 @@ module _ (s : Set) {q : Rule} (e : q ≡ ruleOf s) (asked : Way) {way : Way} (p 
   leaf-in {cell} {old} {new} {leaf} o =
       subst (λ (r : Rule). LeafOf (s .n) r cell old new leaf) (ap₂ (λ (v : Way) (r : Rule). inWay v (s .n) r) (sym p) e) o
 
-  pub single-in : {x : ℕ} {one : Single} → SingleOf (s .n) q (inWay asked (s .n) q .l) x one → SingleOf (s .n) (ruleOf s) (ruleIn way s .l) x one
-  single-in {x} {one} o =
-      subst (λ (v : Way). SingleOf (s .n) (ruleOf s) (ruleIn v s .l) x one) (sym p)
-      (subst (λ (r : Rule). SingleOf (s .n) r (inWay asked (s .n) r .l) x one) e o)
+  pub one-in : (x : ℕ) → inWay asked (s .n) q .l x ≡ ruleIn way s .l x
+  one-in x = ap₂ (λ (v : Way) (r : Rule). inWay v (s .n) r .l x) (sym p) e
 
 -- whether a walk is had, by the family and the way that was asked for
 pub barred-is : {way asked : Way} {f g : Family} → way ≡ asked → f ≡ g → barred way f ≡ barred asked g

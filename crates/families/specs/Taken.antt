@@ -77,7 +77,7 @@ module _ (way : Way) (s : Set) {cell : ℕ} {old new : List ℕ} {leaf : Leaf} (
   pub had-leaf : LeafOf (s .n) (ruleIn way s) cell old new leaf → WalkLeaf way s cell old new leaf
   had-leaf l = record { answer = rw o (l .answer); slice = rw o (l .slice) }
 
-  leaf-had : WalkLeaf way s cell old new leaf → LeafOf (s .n) (ruleIn way s) cell old new leaf
+  pub leaf-had : WalkLeaf way s cell old new leaf → LeafOf (s .n) (ruleIn way s) cell old new leaf
   leaf-had l = record { answer = rw o at (l .answer); slice = rw o at (l .slice) }
 
 pub barred-leaf : (way : Way) (s : Set) {cell : ℕ} {old : List ℕ} → barred way (familyOf s) ≡ true → WalkLeaf way s cell old old (Stopped 1)

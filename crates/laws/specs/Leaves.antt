@@ -1,22 +1,19 @@
 -- From what a leaf function did to what it promises, and from its answer to what stands above it: the numbers fit, and the call's answer is the
 -- leaf's, carried on. Rests on Walk.
 use Prim.Native.Nat.{ℕ, _+_, _-_, _≤_, _<_}
-use mathlib.Core.Bool.{Bool, true, false}
-use mathlib.Core.List.{List, [], _∷_}
+use mathlib.Core.List.{List}
 use mathlib.Core.Path.{_≡_, refl, sym, ap, ap₂, _∙_}
 use native.Mathlib.Omega.{arith}
 use lib.ListN.{length}
-use borrow.Author.Tests.{lt-ltb, le-ltb, ltb-false, le-leb, lt-leb, leb-false}
+use borrow.Author.Tests.{lt-ltb, le-ltb, ltb-false}
 use Rattle.laws.specs.declared.Leaf.{Leaf}
 use Rattle.laws.specs.declared.Leaf.the-variants.{Went, Stopped}
-use Rattle.laws.specs.declared.Single.{Single}
-use Rattle.laws.specs.declared.Single.the-variants.{At, Barred}
-use Rattle.laws.specs.Outcome.{Outcome, done, refused, Line, line, first, Ruling, clear, stopped, settle, judged, after, done-clear, buffer-new}
+use Rattle.laws.specs.Outcome.{Outcome, done, refused, Line, first, Ruling, clear, stopped, settle, judged, after, done-clear}
 use Rattle.laws.specs.Lanes.{Ran}
 use Rattle.laws.specs.Cut.{steps-are, steps-le}
 use Rattle.laws.specs.Once.{inside}
 use Rattle.laws.specs.Bare.{ran-written, ran-cells, ran-slice}
-use Rattle.laws.specs.Walk.{Rule, bareRule, walkList, walkCells, walkSlice, Counts, counts, walkCounts, leafLines, singleLines, sayLeaf, LeafOf, SingleOf, Lawful, n-le}
+use Rattle.laws.specs.Walk.{Rule, bareRule, walkList, walkCells, walkSlice, Counts, counts, walkCounts, leafLines, sayLeaf, LeafOf, Lawful}
 
 -- a ruling, and what it makes of an answer and of a slice
 module _ {A : Type 0} (ls : List Line) (a : A) where
@@ -32,95 +29,59 @@ module _ {A : Type 0} (ls : List Line) (a : A) where
   clear-leaves : {b : A} (old : A) → first ls ≡ clear → b ≡ a → b ≡ after ls a old
   clear-leaves old e p = rw e p
 
--- a walk: refused by 8, by 9, or done
+-- a walk: refused by 9, or done
 module _ {n : ℕ} {r : Rule} {cell : ℕ} {old : List ℕ} where
-  stop : {k : ℕ} → first (leafLines r cell) ≡ stopped k → LeafOf n r cell old old (Stopped k)
-  stop e = record { answer = stop-says (leafLines r cell) _ e; slice = stop-keeps (leafLines r cell) _ e }
+  pub leaf-past : r .total < cell → LeafOf n r cell old old (Stopped 9)
+  leaf-past h =
+      let e : first (leafLines r cell) ≡ stopped 9 = rw (lt-ltb (r .total) cell h) in
+      record { answer = stop-says (leafLines r cell) _ e; slice = stop-keeps (leafLines r cell) _ e }
 
-  pub leaf-fails : r .fails ≡ true → LeafOf n r cell old old (Stopped 8)
-  leaf-fails e = stop (rw e)
-
-  module _ (e : r .fails ≡ false) where
-    pub leaf-past : r .total < cell → LeafOf n r cell old old (Stopped 9)
-    leaf-past h = stop (rw (e, lt-ltb (r .total) cell h))
-
-    pub leaf-went : {new : List ℕ} {a b : ℕ} → cell ≤ r .total → a ≡ length (walkList n r cell (length old)) → b ≡ walkCells n r cell (length old)
-        → new ≡ walkSlice n r cell old → LeafOf n r cell old new (Went a b)
-    leaf-went h p q s =
-        let c : first (leafLines r cell) ≡ clear = rw (e, le-ltb (r .total) cell h) in
-        record { answer = clear-says (leafLines r cell) _ c (ap₂ counts p q); slice = clear-leaves (leafLines r cell) _ old c s }
+  pub leaf-went : {new : List ℕ} {a b : ℕ} → cell ≤ r .total → a ≡ length (walkList n r cell (length old)) → b ≡ walkCells n r cell (length old)
+      → new ≡ walkSlice n r cell old → LeafOf n r cell old new (Went a b)
+  leaf-went h p q s =
+      let c : first (leafLines r cell) ≡ clear = rw (le-ltb (r .total) cell h) in
+      record { answer = clear-says (leafLines r cell) _ c (ap₂ counts p q); slice = clear-leaves (leafLines r cell) _ old c s }
 
 -- a walk of a rule without padding, over N cells
 pub ran-leaf : {l m : ℕ → ℕ} {n cell count : ℕ} {old new : List ℕ} → ((x : ℕ) → x < n → l x < n) → cell ≤ n → Ran l n cell old new count
     → LeafOf n (bareRule n l m) cell old new (Went count count)
 unfolding walkList walkCells walkSlice
-ran-leaf below h r = leaf-went refl h (ran-written below r) (ran-cells below r) (ran-slice below r)
-
--- one address: refused by 8, by 4, or found
-module _ {n : ℕ} {r : Rule} {f : ℕ → ℕ} {x : ℕ} where
-  pub single-fails : r .fails ≡ true → SingleOf n r f x (Barred 8)
-  single-fails e = record { answer = stop-says (singleLines n r x) (f x) (rw e) }
-
-  module _ (e : r .fails ≡ false) where
-    pub single-past : n ≤ x → SingleOf n r f x (Barred 4)
-    single-past h = record { answer = stop-says (singleLines n r x) (f x) (rw (e, le-leb n x h)) }
-
-    pub single-at : {a : ℕ} → x < n → a ≡ f x → SingleOf n r f x (At a)
-    single-at h p = record { answer = clear-says (singleLines n r x) (f x) (rw (e, lt-leb n x h)) p }
+ran-leaf below h r = leaf-went h (ran-written below r) (ran-cells below r) (ran-slice below r)
 
 -- what an answer tells: nothing was in the way, and the counts
-pub record WentWell (n : ℕ) (r : Rule) (cell : ℕ) (old new : List ℕ) (a b : ℕ) : Type 0 where
-  pub found : r .fails ≡ false
+pub record WentWell (n : ℕ) (r : Rule) (cell : ℕ) (old : List ℕ) (a b : ℕ) : Type 0 where
   pub within : cell ≤ r .total
   pub written : a ≡ length (walkList n r cell (length old))
   pub cells : b ≡ walkCells n r cell (length old)
-  pub left : new ≡ walkSlice n r cell old
 
-module _ {n : ℕ} {r : Rule} {cell : ℕ} {old new : List ℕ} where
-  pub went-well : {leaf : Leaf} {a b : ℕ} → leaf ≡ Went a b → LeafOf n r cell old new leaf → WentWell n r cell old new a b
-  went-well {leaf} {a} {b} e o =
-      let q = done-clear (λ k. k) (walkCounts n r cell (length old)) (leafLines r cell) (counts a b) (sym (o .answer) ∙ ap sayLeaf e) in
-      record {
-        found = q .0 .0;
-        within = ltb-false (r .total) cell (q .0 .1 .0);
-        written = sym (ap (λ (c : Counts). c .written) (q .1));
-        cells = sym (ap (λ (c : Counts). c .cells) (q .1));
-        left = o .slice ∙ buffer-new (leafLines r cell) (walkSlice n r cell old) old (q .0);
-      }
+pub went-well : {n : ℕ} {r : Rule} {cell : ℕ} {old new : List ℕ} {leaf : Leaf} {a b : ℕ} → leaf ≡ Went a b → LeafOf n r cell old new leaf
+    → WentWell n r cell old a b
+went-well {n} {r} {cell} {old} {new} {leaf} {a} {b} e o =
+    let q = done-clear (λ k. k) (walkCounts n r cell (length old)) (leafLines r cell) (counts a b) (sym (o .answer) ∙ ap sayLeaf e) in
+    record {
+      within = ltb-false (r .total) cell (q .0 .0);
+      written = sym (ap (λ (c : Counts). c .written) (q .1));
+      cells = sym (ap (λ (c : Counts). c .cells) (q .1));
+    }
 
--- a walk from cell 0 is refused by 8 alone
-pub stopped-by-8 : {n : ℕ} {r : Rule} {old new : List ℕ} {leaf : Leaf} {k : ℕ} → leaf ≡ Stopped k → LeafOf n r 0 old new leaf → (r .fails ≡ true) × (k ≡ 8)
-stopped-by-8 {n} {r} {old} {new} {leaf} {k} e o = go (r .fails) (sym (ap sayLeaf e) ∙ o .answer ∙ rw (le-ltb (r .total) 0 (omega arith)))
-  where
-    go : (b : Bool) → refused k ≡ judged (λ k. k) (line 8 b ∷ line 9 false ∷ []) (walkCounts n r 0 (length old)) → (b ≡ true) × (k ≡ 8)
-    go true q = (refl, cc)
-    go false q = let z : _≡_ {A = ℕ} 0 1 = cc in absurd (omega arith)
+-- from cell 0 nothing is in the way, whatever the answer: the slice is that of the walk
+pub begun : {n : ℕ} {r : Rule} {old new : List ℕ} {leaf : Leaf} → LeafOf n r 0 old new leaf → new ≡ walkSlice n r 0 old
+begun {n} {r} {old} o = o .slice ∙ rw (le-ltb (r .total) 0 (omega arith))
 
 -- the numbers of an answer fit 16 bits
 abbrev pub Fits : ℕ → Leaf → Type 0
 Fits cell (Went a b) = (a < 65536) × (cell + b < 65536)
 Fits cell (Stopped k) = Unit {0}
 
-abbrev pub Small : Single → Type 0
-Small (At a) = a < 65536
-Small (Barred k) = Unit {0}
-
-module _ {n : ℕ} {r : Rule} (h : Lawful n r) where
-  pub leaf-fits : {cell : ℕ} {old new : List ℕ} (leaf : Leaf) → LeafOf n r cell old new leaf → Fits cell leaf
-  unfolding walkList walkCells
-  leaf-fits {cell} {old} (Went a b) o =
-      let w = went-well refl o in
-      let s = steps-le (r .address) (inside n) cell (r .total - cell) (length old) in (
-        omega (arith, w .written, steps-are (r .address) (inside n) cell (r .total - cell) (length old), h .small),
-        omega (arith, w .cells, w .within, h .small),
-      )
-  leaf-fits (Stopped k) o = tt
-
-  pub single-fits : {f : ℕ → ℕ} {x : ℕ} → ((x : ℕ) → x < n → f x < n) → (one : Single) → SingleOf n r f x one → Small one
-  single-fits {f} {x} below (At a) o =
-      let q = done-clear (λ k. k) (f x) (singleLines n r x) a (sym (o .answer)) in
-      omega (arith, q .1, below x (leb-false n x (q .0 .1 .0)), n-le h, h .small)
-  single-fits below (Barred k) o = tt
+pub leaf-fits : {n : ℕ} {r : Rule} → Lawful n r → {cell : ℕ} {old new : List ℕ} (leaf : Leaf) → LeafOf n r cell old new leaf → Fits cell leaf
+unfolding walkList walkCells
+leaf-fits {n} {r} h {cell} {old} (Went a b) o =
+    let w = went-well refl o in
+    let s = steps-le (r .address) (inside n) cell (r .total - cell) (length old) in (
+      omega (arith, w .written, steps-are (r .address) (inside n) cell (r .total - cell) (length old), h .small),
+      omega (arith, w .cells, w .within, h .small),
+    )
+leaf-fits h (Stopped k) o = tt
 
 -- an answer carried on: with the refusal of its number, and other values
 abbrev pub carry : {A B R : Type 0} → (ℕ → R) → (A → B) → Outcome ℕ A → Outcome R B

@@ -1,22 +1,19 @@
 -- A family of interleavers is one rule, and a walk along it is one thing for every family: which addresses it writes, which cells it examines,
--- what it leaves in the slice, and when it is refused. Every leaf function promises `LeafOf` or `SingleOf`; what stands above the families rests
--- on `Lawful` and on no formula.
+-- what it leaves in the slice, and when it is refused. Every leaf walk promises `LeafOf`; what stands above the families rests on `Lawful` and on
+-- no formula.
 use Prim.Native.Nat.{ℕ, min, _+_, _-_, _≤_, _<_}
-use mathlib.Core.Bool.{Bool, false}
 use mathlib.Core.List.{List, [], _∷_, _++_}
 use mathlib.Core.Path.{_≡_, sym, ap, _∙_}
-use native.Mathlib.Nat.{sub-zero, zero-add}
+use native.Mathlib.Nat.{sub-zero, zero-add, min-eq-right}
 use native.Mathlib.Omega.{arith}
-use lib.Dec.{ltb, leb}
+use lib.Dec.{ltb}
 use lib.ListN.{length, take, drop}
-use lib.Seq.{take-all, drop-append-seam}
+use lib.Seq.{drop-append-seam}
 use borrow.Author.Tests.{lt-ltb}
 use Rattle.laws.specs.declared.Way.{Way}
 use Rattle.laws.specs.declared.Way.the-variants.{Interleaver, Deinterleaver}
 use Rattle.laws.specs.declared.Leaf.{Leaf}
 use Rattle.laws.specs.declared.Leaf.the-variants.{Went, Stopped}
-use Rattle.laws.specs.declared.Single.{Single}
-use Rattle.laws.specs.declared.Single.the-variants.{At, Barred}
 use Rattle.laws.specs.Outcome.{Outcome, done, refused, Line, line, judged, after}
 use Rattle.laws.specs.Run.{run, length-run, take-run, drop-run}
 use Rattle.laws.specs.Perm.{Perm, swapped}
@@ -27,17 +24,16 @@ use Rattle.laws.specs.Bare.{keep-bare, steps-bare}
 use Rattle.laws.specs.Loop.{by, by-run}
 
 -- the rule of a block of N: the cell total, and the address of a cell, which is padding exactly when its address is N or more; L, output t
--- holds input L(t); M, input k goes to output M(k); and 8, whether the search of its set-up gives up
+-- holds input L(t); M, input k goes to output M(k)
 pub record Rule : Type 0 where
   pub total : ℕ
   pub address : ℕ → ℕ
   pub l : ℕ → ℕ
   pub m : ℕ → ℕ
-  pub fails : Bool
 
--- a rule without padding: a cell is an output position, and nothing is searched for
+-- a rule without padding: a cell is an output position
 abbrev pub bareRule : ℕ → (ℕ → ℕ) → (ℕ → ℕ) → Rule
-bareRule n l m = record { total = n; address = l; l = l; m = m; fails = false }
+bareRule n l m = record { total = n; address = l; l = l; m = m }
 
 -- the rule the other way round: a cell is an input position, and M is walked
 abbrev pub back : ℕ → Rule → Rule
@@ -81,30 +77,18 @@ counts w c = record { written = w; cells = c }
 abbrev pub walkCounts : ℕ → Rule → ℕ → ℕ → Counts
 walkCounts n r cell room = counts (length (walkList n r cell room)) (walkCells n r cell room)
 
--- what it may be refused for: 8, then 9, that the cell is past the total
+-- what it may be refused for: 9, that the cell is past the total
 abbrev pub leafLines : Rule → ℕ → List Line
-leafLines r cell = line 8 (r .fails) ∷ line 9 (ltb (r .total) cell) ∷ []
-
--- and one address: 8, then 4, that the position is N or more
-abbrev pub singleLines : ℕ → Rule → ℕ → List Line
-singleLines n r x = line 8 (r .fails) ∷ line 4 (leb n x) ∷ []
+leafLines r cell = line 9 (ltb (r .total) cell) ∷ []
 
 abbrev pub sayLeaf : Leaf → Outcome ℕ Counts
 sayLeaf (Went w c) = done (counts w c)
 sayLeaf (Stopped k) = refused k
 
-abbrev pub saySingle : Single → Outcome ℕ ℕ
-saySingle (At x) = done x
-saySingle (Barred k) = refused k
-
 -- what every leaf walk promises, from any cell
 pub record LeafOf (n : ℕ) (r : Rule) (cell : ℕ) (old new : List ℕ) (leaf : Leaf) : Type 0 where
   pub answer : sayLeaf leaf ≡ judged (λ k. k) (leafLines r cell) (walkCounts n r cell (length old))
   pub slice : new ≡ after (leafLines r cell) (walkSlice n r cell old) old
-
--- what every leaf address promises, L at t or M at k, at any position
-pub record SingleOf (n : ℕ) (r : Rule) (f : ℕ → ℕ) (x : ℕ) (one : Single) : Type 0 where
-  pub answer : saySingle one ≡ judged (λ k. k) (singleLines n r x) (f x)
 
 -- the laws of a family: L and M undo each other below N; the addresses that are no padding are L, at 0 to N - 1; cells fit 16 bits
 pub record Lawful (n : ℕ) (r : Rule) : Type 0 where
@@ -145,14 +129,18 @@ module _ {n : ℕ} {r : Rule} (h : Lawful n r) where
   lawful-in Interleaver = h
   lawful-in Deinterleaver = lawful-back
 
-  -- with room for N a walk from cell 0 writes L
-  pub whole-list : (room : ℕ) → n ≤ room → walkList n r 0 room ≡ run (r .l) 0 n
+  -- from cell 0 a walk writes L, as much of it as there is room for ..
+  first-list : (room : ℕ) → walkList n r 0 room ≡ run (r .l) 0 (min room n)
   unfolding walkList
-  whole-list room o =
+  first-list room =
       wrote-take (r .address) (inside n) 0 (r .total - 0) room
       ∙ ap (λ (m : ℕ). take room (keep (r .address) (inside n) 0 m)) (sub-zero (r .total))
       ∙ ap (take room) (h .list)
-      ∙ take-all room (run (r .l) 0 n) (omega (arith, length-run (r .l) 0 n))
+      ∙ take-run (r .l) 0 n room
+
+  -- .. and all of it with room for N
+  pub whole-list : (room : ℕ) → n ≤ room → walkList n r 0 room ≡ run (r .l) 0 n
+  whole-list room o = first-list room ∙ ap (run (r .l) 0) (min-eq-right o)
 
   -- from any cell, with any room, it writes L on from as many as are no padding before that cell
   pub walk-from : (cell room : ℕ) → cell ≤ r .total
@@ -171,10 +159,10 @@ module _ {n : ℕ} {r : Rule} (h : Lawful n r) where
       ∙ take-run (r .l) (0 + length front) (n - length front) room
       ∙ ap (λ (c : ℕ). run (r .l) c (min room (n - length front))) (zero-add (length front))
 
-  -- and a table with room for N that it filled is L
-  pub table-is : (old : List ℕ) → n ≤ length old → (t : ℕ) → t < n → by (walkSlice n r 0 old) t ≡ r .l t
+  -- and a table that a walk from cell 0 filled is L, as far as it goes
+  pub table-is : (old : List ℕ) (t : ℕ) → t < length old → t < n → by (walkSlice n r 0 old) t ≡ r .l t
   unfolding walkSlice
-  table-is old o t l =
-      by-run (r .l) 0 n (walkSlice n r 0 old) (drop (length (walkList n r 0 (length old))) old)
-      (ap (λ (x : List ℕ). x ++ drop (length (walkList n r 0 (length old))) old) (whole-list (length old) o)) t l
+  table-is old t o l =
+      by-run (r .l) 0 (min (length old) n) (walkSlice n r 0 old) (drop (length (walkList n r 0 (length old))) old)
+      (ap (λ (x : List ℕ). x ++ drop (length (walkList n r 0 (length old))) old) (first-list (length old))) t (omega arith)
       ∙ ap (r .l) (zero-add t)

@@ -1,5 +1,5 @@
-// Mathematics: specs/ has the laws, over any element and any rule. The code is three types: which way symbols go, and what every leaf walk and
-// every leaf address answers. (specs/Walk.antt says what they promise.)
+// Mathematics: specs/ has the laws, over any element and any rule. The code is two types: which way symbols go, and what every leaf walk answers.
+// (specs/Walk.antt says what it promises.)
 
 // Which way symbols go: to the channel, or back from it.
 pub enum Way {
@@ -11,10 +11,4 @@ pub enum Way {
 pub enum Leaf {
     Went { written: usize, cells: usize },
     Stopped(u32),
-}
-
-// One address of a family; or the number of its refusal.
-pub enum Single {
-    At(usize),
-    Barred(u32),
 }

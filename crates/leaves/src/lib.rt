@@ -1,13 +1,12 @@
 // Which leaf is asked for the walk and for one address of an accepted set: that of its family. A crate for each family has its leaves; families has
-// their rules. Inner functions: whoever calls them has tested the set.
+// their rules. Inner functions: whoever calls them has tested the set, and the position.
 ghost use mathlib.Core.Path.{_≡_};
-ghost use Rattle.laws.specs.Walk.{SingleOf};
+ghost use Prim.Native.Nat.{_<_};
 ghost use Rattle.sets.specs.Set.{familyOf};
-ghost use Rattle.families.specs.Rules.{ruleOf, ruleIn, barred};
+ghost use Rattle.families.specs.Rules.{ruleIn, barred};
 ghost use Rattle.sets.specs.Admits.{Accepted};
 ghost use Rattle.families.specs.Taken.{WalkLeaf};
 use laws::Leaf;
-use laws::Single;
 use laws::Way;
 use sets::Set;
 
@@ -38,10 +37,10 @@ pub fn walk(way: Way, set: Set, cell: usize, out: &mut [u16]) -> Leaf
     carrier_sets::walk(way, set, cell, out)
 }
 
-// One address of an accepted set, by family.
-pub fn address(way: Way, set: Set, x: usize) -> Single
-    requires { ⌜ Accepted set ⌝ }
-    ensures { λ r. ⌜ SingleOf (set .n) (ruleOf set) (ruleIn way set .l) x r ⌝ }
+// One address of an accepted set, at a position below N, by family.
+pub fn address(way: Way, set: Set, x: usize) -> usize
+    requires { ⌜ Accepted set × (x < set .n) ⌝ }
+    ensures { λ r. ⌜ r ≡ ruleIn way set .l x ⌝ }
 {
     if sets::is_turbo(set) {
         return turbo_sets::address(way, set, x);

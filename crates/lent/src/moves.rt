@@ -1,4 +1,4 @@
-// Whole blocks, of bytes, of f32 soft values, and of symbols of any width. Refusals 1, 2, 3, 16, 11, 10, 8, 5, 6, in every call.
+// Whole blocks, of bytes, of f32 soft values, and of symbols of any width. Refusals 1, 2, 3, 16, 11, 10, 5, 6, in every call.
 use flat::SET;
 use laws::Way;
 ghost use mathlib.Core.Path.{_≡_};

@@ -1,11 +1,11 @@
 // An accepted set of the quadratic family: its K, f1 and f2, and the leaf that is asked. M is not walked.
 use laws::Leaf;
-use laws::Single;
 use laws::Way;
 use sets::Set;
-ghost use Rattle.laws.specs.Walk.{SingleOf};
+ghost use mathlib.Core.Path.{_≡_};
+ghost use Prim.Native.Nat.{_<_};
 ghost use Rattle.profiles.specs.declared.Family.the-variants.{Quadratic};
-ghost use Rattle.families.specs.Rules.{ruleOf, ruleIn};
+ghost use Rattle.families.specs.Rules.{ruleIn};
 ghost use Rattle.families.specs.Taken.{Taken, WalkLeaf};
 
 pub fn walk(way: Way, set: Set, cell: usize, out: &mut [u16]) -> Leaf
@@ -20,14 +20,14 @@ pub fn walk(way: Way, set: Set, cell: usize, out: &mut [u16]) -> Leaf
     }
 }
 
-pub fn address(way: Way, set: Set, x: usize) -> Single
-    requires { ⌜ Taken set Quadratic ⌝ }
-    ensures { λ r. ⌜ SingleOf (set .n) (ruleOf set) (ruleIn way set .l) x r ⌝ }
+pub fn address(way: Way, set: Set, x: usize) -> usize
+    requires { ⌜ Taken set Quadratic × (x < set .n) ⌝ }
+    ensures { λ r. ⌜ r ≡ ruleIn way set .l x ⌝ }
 {
     let f1 = set.factors.first as usize;
     let f2 = set.factors.second as usize;
     match way {
-        Way::Interleaver => quadratic_walk::one_l(set.n as usize, f1, f2, x),
-        Way::Deinterleaver => quadratic_walk::one_m(set.n as usize, f1, f2, x),
+        Way::Interleaver => quadratic_walk::address_of(set.n as usize, f1, f2, x),
+        Way::Deinterleaver => quadratic_walk::place_of(set.n as usize, f1, f2, x),
     }
 }

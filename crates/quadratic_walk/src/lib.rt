@@ -2,7 +2,6 @@
 // are worked out once a call, by products and remainders; from there on each step is two sums, of which each takes K off at most once. The
 // public functions are leaf functions: the crate above them tests a set first, and shows what they require.
 use laws::Leaf;
-use laws::Single;
 use residues::least;
 use residues::plus;
 ghost use mathlib.Core.Path.{_≡_};
@@ -10,7 +9,7 @@ ghost use mathlib.Core.List.{List};
 ghost use Prim.Native.Nat.{ℕ, _+_, _*_, _%_, _≤_, _<_};
 ghost use lib.ListN.{length};
 ghost use Rattle.laws.specs.Lanes.{Ran};
-ghost use Rattle.laws.specs.Walk.{LeafOf, SingleOf};
+ghost use Rattle.laws.specs.Walk.{LeafOf};
 ghost use Rattle.quadratic.specs.Formula.{quadraticL, quadraticM, quadraticRule};
 ghost use Rattle.quadratic_walk.specs.Spot.{Whole, Block, SpotAt, SpotIn, Walking, OneOn};
 
@@ -109,24 +108,6 @@ fn write(k: usize, f1: usize, f2: usize, cell: usize, out: &mut [u16]) -> usize
     count
 }
 
-// The position whose address is a, by walking there.
-fn place_of(k: usize, f1: usize, f2: usize, a: usize) -> usize
-    requires { ⌜ Whole k f1 f2 ⌝ }
-    ensures { λ r. ⌜ r ≡ quadraticM k f1 f2 a ⌝ }
-{
-    let twice = twice_of(k, f2);
-    let mut at = Spot::new(k, f1, f2, 0);
-    let mut t = 0;
-    while t < k {
-        if at.value == a {
-            return t;
-        }
-        at = at.next(k, twice);
-        t += 1;
-    }
-    t
-}
-
 // The walk for L from a cell: 9 where it is past the total.
 pub fn walk(k: usize, f1: usize, f2: usize, cell: usize, out: &mut [u16]) -> Leaf
     requires { ⌜ Whole k f1 f2 ⌝ }
@@ -142,24 +123,28 @@ pub fn walk(k: usize, f1: usize, f2: usize, cell: usize, out: &mut [u16]) -> Lea
     }
 }
 
-// L(t): 4 where t is K or more.
-pub fn one_l(k: usize, f1: usize, f2: usize, t: usize) -> Single
-    requires { ⌜ Whole k f1 f2 ⌝ }
-    ensures { λ r. ⌜ SingleOf k (quadraticRule k f1 f2) (quadraticL k f1 f2) t r ⌝ }
+// L(t), for t below K.
+pub fn address_of(k: usize, f1: usize, f2: usize, t: usize) -> usize
+    requires { ⌜ Whole k f1 f2 × (t < k) ⌝ }
+    ensures { λ r. ⌜ r ≡ quadraticL k f1 f2 t ⌝ }
 {
-    if t >= k {
-        return Single::Barred(4);
-    }
-    Single::At(Spot::new(k, f1, f2, t).value)
+    Spot::new(k, f1, f2, t).value
 }
 
-// M(a): 4 where a is K or more.
-pub fn one_m(k: usize, f1: usize, f2: usize, a: usize) -> Single
+// M(a), the position whose address is a, by walking there.
+pub fn place_of(k: usize, f1: usize, f2: usize, a: usize) -> usize
     requires { ⌜ Whole k f1 f2 ⌝ }
-    ensures { λ r. ⌜ SingleOf k (quadraticRule k f1 f2) (quadraticM k f1 f2) a r ⌝ }
+    ensures { λ r. ⌜ r ≡ quadraticM k f1 f2 a ⌝ }
 {
-    if a >= k {
-        return Single::Barred(4);
+    let twice = twice_of(k, f2);
+    let mut at = Spot::new(k, f1, f2, 0);
+    let mut t = 0;
+    while t < k {
+        if at.value == a {
+            return t;
+        }
+        at = at.next(k, twice);
+        t += 1;
     }
-    Single::At(place_of(k, f1, f2, a))
+    t
 }

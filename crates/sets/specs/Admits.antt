@@ -4,11 +4,11 @@
 use mathlib.Core.Path.{_≡_, sym, subst}
 use mathlib.Core.Bool.{true, _&&_}
 use mathlib.Core.Logic.{_↔_}
-use mathlib.Core.List.{_++_, List·Memᴰ, Memᴰ·of-map}
+use mathlib.Core.List.{List, _++_, List·Memᴰ, Memᴰ·of-map}
 use Prim.Native.Nat.{ℕ, _≤_}
 use lib.Dec.{leb}
 use borrow.Author.Tests.{leb-true, not-false}
-use Rattle.laws.specs.Outcome.{done, Clear, done-clear, clear-done}
+use Rattle.laws.specs.Outcome.{done, Line, clear, first, Clear, done-clear, clear-done, done-front, first-clear, clear-front}
 use Rattle.laws.specs.Told.{NoneTrue, told-clear, clear-join, clear-parts}
 use Rattle.laws.specs.Members.{both, at-each, by-member, in-chained, of-chained}
 use Rattle.sets.specs.declared.Set.{Set}
@@ -28,6 +28,16 @@ use Rattle.sets.specs.Verdict.{sizeLines, setLines, refusal, verdictOf}
 -- the test of a set accepts it
 abbrev pub Accepted : Set → Type 0
 Accepted s = verdictOf s ≡ done tt
+
+-- then none of its lines applies, and what stands behind them decides ..
+pub accepted-front : (s : Set) (more : List Line) → Accepted s → first (setLines s ++ more) ≡ first more
+unfolding verdictOf
+accepted-front s more e = done-front (refusal s) tt tt (setLines s) more e
+
+-- .. and where no line of a call applies, its set is accepted
+pub front-accepted : (s : Set) (more : List Line) → first (setLines s ++ more) ≡ clear → Accepted s
+unfolding verdictOf
+front-accepted s more e = clear-done (refusal s) tt (setLines s) (first-clear (setLines s) (clear-front (setLines s) more e))
 
 -- bits that pass have a row
 module _ (q : Entry) (a : Counted q) (b : ℕ) (e : bitsIn (q .admitted) b ≡ true) where

@@ -1,13 +1,12 @@
 // An accepted set of the spatial family: its block, with the stream, and the leaf that is asked.
 use carrier_turned::Stream;
 use laws::Leaf;
-use laws::Single;
 use laws::Way;
 use sets::Set;
 ghost use mathlib.Core.Path.{_≡_};
-ghost use Rattle.laws.specs.Walk.{SingleOf};
+ghost use Prim.Native.Nat.{_<_};
 ghost use Rattle.profiles.specs.declared.Family.the-variants.{Spatial};
-ghost use Rattle.families.specs.Rules.{ruleOf, ruleIn};
+ghost use Rattle.families.specs.Rules.{ruleIn};
 ghost use Rattle.families.specs.Taken.{Taken, WalkLeaf};
 ghost use Rattle.families.specs.Families.{streamOf};
 
@@ -37,9 +36,9 @@ pub fn walk(way: Way, set: Set, cell: usize, out: &mut [u16]) -> Leaf
     }
 }
 
-pub fn address(way: Way, set: Set, x: usize) -> Single
-    requires { ⌜ Taken set Spatial ⌝ }
-    ensures { λ r. ⌜ SingleOf (set .n) (ruleOf set) (ruleIn way set .l) x r ⌝ }
+pub fn address(way: Way, set: Set, x: usize) -> usize
+    requires { ⌜ Taken set Spatial × (x < set .n) ⌝ }
+    ensures { λ r. ⌜ r ≡ ruleIn way set .l x ⌝ }
 {
     let b = stream_of(set);
     match way {

@@ -6,11 +6,10 @@ use tables::MIDDLE;
 use tables::Moved;
 use tables::SMALL;
 ghost use mathlib.Core.Path.{_≡_};
-ghost use Prim.Native.Nat.{_*_};
+ghost use Prim.Native.Nat.{_*_, _≤_};
 ghost use lib.ListN.{length};
 ghost use Rattle.laws.specs.declared.Way.the-variants.{Interleaver, Deinterleaver};
-ghost use Rattle.tables.specs.Answer.{movedOf, sayMoved};
-ghost use Rattle.tables.specs.Passed.{Roomy};
+ghost use Rattle.tables.specs.Answer.{movedOf, sayMoved, Judged};
 ghost use Rattle.symbols.specs.Answer.{movedSymbols};
 
 // How many bytes a block of symbols has.
@@ -20,41 +19,34 @@ fn bytes_of(set: Set, width: u32) -> usize
     set.n as usize * width as usize
 }
 
-// Moves a block by a lent table.
-fn move_by(way: Way, set: Set, width: u32, table: &mut [u16], src: &[u8], dst: &mut [u8]) -> Moved
-    requires { ⌜ Roomy set (now table) ⌝ }
-    ensures answer { λ r. ⌜ sayMoved r ≡ movedOf set (set .n * width) (length (now (src .entry))) (length (now (dst .entry))) ⌝ }
-    ensures output { λ r. ⌜ now (dst .exit) ≡ movedSymbols way set width (now (src .entry)) (now (dst .entry)) ⌝ }
+// Moves a judged block by a lent table.
+fn move_by(way: Way, set: Set, width: u32, table: &mut [u16], src: &[u8], dst: &mut [u8])
+    requires { ⌜ Judged set (set .n * width) (length (now src)) (length (now dst)) × (set .n ≤ length (now table)) ⌝ }
+    ensures { λ _. ⌜ now (dst .exit) ≡ movedSymbols way set width (now (src .entry)) (now (dst .entry)) ⌝ }
 {
-    let m = tables::fill(set, bytes_of(set, width), src.len(), dst.len(), table);
-    match m {
-        Moved::Refused(x) => Moved::Refused(x),
-        Moved::Done => {
-            match way {
-                Way::Interleaver => symbol_movers::gather_by(
-                    table,
-                    set.n as usize,
-                    width as usize,
-                    src,
-                    dst,
-                ),
-                Way::Deinterleaver => symbol_movers::scatter_by(
-                    table,
-                    set.n as usize,
-                    width as usize,
-                    src,
-                    dst,
-                ),
-            }
-            Moved::Done
-        }
+    tables::fill(set, table);
+    match way {
+        Way::Interleaver => symbol_movers::gather_by(
+            table,
+            set.n as usize,
+            width as usize,
+            src,
+            dst,
+        ),
+        Way::Deinterleaver => symbol_movers::scatter_by(
+            table,
+            set.n as usize,
+            width as usize,
+            src,
+            dst,
+        ),
     }
 }
 
-// Moves a block of N symbols of `width` bytes, either way. Refusals 1, 2, 3, 16, 11, 10, 8, 5, 6.
-pub fn move_symbols(way: Way, set: Set, width: u32, src: &[u8], dst: &mut [u8]) -> Moved
-    ensures answer { λ r. ⌜ sayMoved r ≡ movedOf set (set .n * width) (length (now (src .entry))) (length (now (dst .entry))) ⌝ }
-    ensures output { λ r. ⌜ now (dst .exit) ≡ movedSymbols way set width (now (src .entry)) (now (dst .entry)) ⌝ }
+// Moves a judged block by the smallest table that holds N.
+fn move_judged(way: Way, set: Set, width: u32, src: &[u8], dst: &mut [u8])
+    requires { ⌜ Judged set (set .n * width) (length (now src)) (length (now dst)) ⌝ }
+    ensures { λ _. ⌜ now (dst .exit) ≡ movedSymbols way set width (now (src .entry)) (now (dst .entry)) ⌝ }
 {
     let n = tables::size_of(set);
     if n <= SMALL {
@@ -67,6 +59,20 @@ pub fn move_symbols(way: Way, set: Set, width: u32, src: &[u8], dst: &mut [u8]) 
     }
     let mut table = [0u16; LARGE];
     move_by(way, set, width, &mut table, src, dst)
+}
+
+// Moves a block of N symbols of `width` bytes, either way. Refusals 1, 2, 3, 16, 11, 10, 5, 6, before anything is walked.
+pub fn move_symbols(way: Way, set: Set, width: u32, src: &[u8], dst: &mut [u8]) -> Moved
+    ensures answer { λ r. ⌜ sayMoved r ≡ movedOf set (set .n * width) (length (now (src .entry))) (length (now (dst .entry))) ⌝ }
+    ensures output { λ r. ⌜ now (dst .exit) ≡ movedSymbols way set width (now (src .entry)) (now (dst .entry)) ⌝ }
+{
+    match tables::judge(set, bytes_of(set, width), src.len(), dst.len()) {
+        Moved::Refused(x) => Moved::Refused(x),
+        Moved::Done => {
+            move_judged(way, set, width, src, dst);
+            Moved::Done
+        }
+    }
 }
 
 // Interleaves N symbols of `width` bytes: symbol t of dst is symbol L(t) of src.

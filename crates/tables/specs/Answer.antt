@@ -1,5 +1,5 @@
 -- A call that moves a block of so many symbols or bytes: its lines in the order of document 01, with 16 of request 4 and 11 and 10 of request 6 after 3:
--- 1, 2, 3, 16, 11, 10, 8, 5, 6; and what it has to say. The length of a block is a number of its own: N symbols, or N times a width.
+-- 1, 2, 3, 16, 11, 10, 5, 6; and what it has to say. The length of a block is a number of its own: N symbols, or N times a width.
 use Prim.Native.Nat.{ℕ}
 use mathlib.Core.Bool.{not}
 use mathlib.Core.List.{List, [], _∷_, _++_, map}
@@ -9,8 +9,7 @@ use lib.ListN.{length, length-map}
 use Rattle.laws.specs.Outcome.{Outcome, done, refused, apart, Line, line, judged}
 use Rattle.sets.specs.declared.Set.{Set}
 use Rattle.sets.specs.declared.Refusal.{Refusal}
-use Rattle.sets.specs.Verdict.{refusal}
-use Rattle.walks.specs.Answer.{planLines}
+use Rattle.sets.specs.Verdict.{setLines, refusal}
 use Rattle.tables.specs.declared.Moved.{Moved}
 use Rattle.tables.specs.declared.Moved.the-variants.{Done, Refused}
 
@@ -19,11 +18,15 @@ abbrev pub lengthLines : ℕ → ℕ → ℕ → List Line
 lengthLines total i o = line 5 (not (eqb i total)) ∷ line 6 (not (eqb o total)) ∷ []
 
 unfoldable pub blockLines : Set → ℕ → ℕ → ℕ → List Line
-blockLines s total i o = planLines s ++ lengthLines total i o
+blockLines s total i o = setLines s ++ lengthLines total i o
 
 -- what a call on a block of so many has to say, for an input and an output of these lengths
 abbrev pub movedOf : Set → ℕ → ℕ → ℕ → Outcome Refusal (Unit {0})
 movedOf s total i o = judged (refusal s) (blockLines s total i o) tt
+
+-- it was judged, and nothing is in its way
+abbrev pub Judged : Set → ℕ → ℕ → ℕ → Type 0
+Judged s total i o = movedOf s total i o ≡ done tt
 
 -- every symbol changed by any function, it says the same
 pub blind-answer : {A B : Type 0} (h : A → B) (s : Set) (src dst : List A) (total : ℕ)

@@ -1,10 +1,15 @@
-// The table of a block: the walk for L written into a lent table, and the lengths of a block judged, for whoever moves symbols. How long a block
-// is, is the caller's to say: N symbols, N times a width.
+// What every call that moves a block does first: the set and the lengths are judged, and then the walk for L is written into a lent table. How long a
+// block is, is the caller's to say: N symbols, N times a width.
+use laws::Way;
 use sets::Refusal;
 use sets::Set;
-use walks::Walk;
-use walks::Walked;
-ghost use Rattle.tables.specs.Passed.{Roomy, Filled, SizeOf};
+use sets::Verdict;
+ghost use mathlib.Core.Path.{_≡_};
+ghost use Prim.Native.Nat.{_≤_};
+ghost use lib.ListN.{length};
+ghost use Rattle.sets.specs.Admits.{Accepted};
+ghost use Rattle.tables.specs.Answer.{movedOf, sayMoved};
+ghost use Rattle.tables.specs.Passed.{Tabled, SizeOf};
 
 // A table is cleared at each call, so it is the smallest of three that holds N. The largest holds any listed size.
 pub const SMALL: usize = 64;
@@ -26,19 +31,13 @@ pub fn size_of(set: Set) -> usize
     set.n as usize
 }
 
-// Fills a table with L and judges the lengths of a block of `total` symbols or bytes: the walk tells 1, 2, 3, 16, 11, 10 and 8; then 5 and 6.
-pub fn fill(set: Set, total: usize, input: usize, output: usize, table: &mut [u16]) -> Moved
-    requires { ⌜ Roomy set (now table) ⌝ }
-    ensures { λ r. ⌜ Filled set total input output (now (table .exit)) r ⌝ }
+// Judges a block of `total` symbols or bytes, before anything is walked: the set, 1, 2, 3, 16, 11, 10; then the lengths, 5 and 6.
+pub fn judge(set: Set, total: usize, input: usize, output: usize) -> Moved
+    ensures { λ r. ⌜ sayMoved r ≡ movedOf set total input output ⌝ }
 {
-    let w = walks::walk_l(Walk { set, cell: 0 }, table);
-    match w {
-        Walked::Refused(x) => Moved::Refused(x),
-        Walked::Done {
-            written: _,
-            next: _,
-            cells: _,
-        } => {
+    match sets::test(set) {
+        Verdict::Refused(x) => Moved::Refused(x),
+        Verdict::Accepted => {
             if input != total {
                 return Moved::Refused(sets::refusal_of(set, 5));
             }
@@ -48,4 +47,12 @@ pub fn fill(set: Set, total: usize, input: usize, output: usize, table: &mut [u1
             Moved::Done
         }
     }
+}
+
+// Fills a table with L of an accepted set.
+pub fn fill(set: Set, table: &mut [u16])
+    requires { ⌜ Accepted set × (set .n ≤ length (now table)) ⌝ }
+    ensures { λ _. ⌜ Tabled set (now (table .exit)) ⌝ }
+{
+    leaves::walk(Way::Interleaver, set, 0, table);
 }

@@ -31,7 +31,7 @@ use Rattle.combine.specs.Eighths.{Worth}
 use Rattle.combine.specs.Exact.{Eighths, sum-exact}
 use Rattle.tender.specs.Condition2.{Listed, admits, L, target-back}
 
--- a number is said exactly when its sentence is the first that holds: 1, 2, 3, 16, 11, 10, 8, 5, 6, 14, 13, 15 for a block, 1, 2, 3, 16, 11, 10, 8, 4, 6 for a position
+-- a number is said exactly when its sentence is the first that holds: 1, 2, 3, 16, 11, 10, 5, 6, 14, 13, 15 for a block, 1, 2, 3, 16, 11, 10, 4, 6 for a position
 pub refusal-order-add : (s : Set) (b : Reception) (h : Kept) (k : ℕ) → (addedOf s b h ≡ refused (refusal s k)) ↔ FirstTrue (addSentences s b h) k
 refusal-order-add s b h k = refusals.refusal-order-add s b h k
 

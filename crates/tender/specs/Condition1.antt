@@ -30,15 +30,15 @@ use Rattle.symbols.specs.Refusals as symbols
 pub refusal-order-set : (s : Set) (k : ℕ) → (verdictOf s ≡ refused (refusal s k)) ↔ FirstTrue (setSentences s) k
 refusal-order-set s k = refusal-order-test s k
 
--- a walk, for L or for M: 1, for M also of profiles 5 and 8, 2, 3, 16, 11, 10, 8, 9
+-- a walk, for L or for M: 1, for M also of profiles 5 and 8, 2, 3, 16, 11, 10, 9
 pub refusal-order-walk : (way : Way) (w : Walk) (room k : ℕ) → (walkedOf way w room ≡ refused (refusal (w .set) k)) ↔ FirstTrue (walkSentences way w) k
 refusal-order-walk way w room k = walking.refusal-order-walk way w room k
 
--- one address, of L or of M: 1, 2, 3, 16, 11, 10, 8, 4
+-- one address, of L or of M: 1, 2, 3, 16, 11, 10, 4
 pub refusal-order-address : (way : Way) (s : Set) (x k : ℕ) → (foundOf way s x ≡ refused (refusal s k)) ↔ FirstTrue (oneSentences s x) k
 refusal-order-address way s x k = refusal-order-one way s x k
 
--- a block, either way, of as many symbols or bytes as it must have: 1, 2, 3, 16, 11, 10, 8, 5, 6. That is N for bytes and soft values ..
+-- a block, either way, of as many symbols or bytes as it must have: 1, 2, 3, 16, 11, 10, 5, 6. That is N for bytes and soft values ..
 pub refusal-order-moved : (s : Set) (i o k : ℕ) → (movedOf s (s .n) i o ≡ refused (refusal s k)) ↔ FirstTrue (blockSentences s (s .n) i o) k
 refusal-order-moved s i o k = refusal-order-block s (s .n) i o k
 

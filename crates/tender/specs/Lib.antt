@@ -1,4 +1,5 @@
 pub mod Condition1
+pub mod Order
 pub mod Condition2
 pub mod One
 pub mod Symbols

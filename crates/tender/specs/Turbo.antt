@@ -1,12 +1,20 @@
 -- Condition 2 for profile 5, the WCDMA turbo interleaver of 3GPP TS 25.212: for every size K from 40 to 5,114 each address from 0 to K - 1 stands in L
 -- exactly once, and the padding is counted. Where C = p + 1 and K = R·C, the entries U of the row with T(i) = R - 1 change places at columns 0 and p.
-use Prim.Native.Nat.{ℕ, _+_, _*_, _-_, _≤_, _<_}
-use mathlib.Core.Path.{_≡_}
+-- The search for the rows' numbers q ends by 89.
+use Prim.Native.Nat.{ℕ, suc, _+_, _*_, _-_, _≤_, _<_}
+use mathlib.Core.List.{List·Memᴰ}
+use mathlib.Core.Path.{_≡_, refl}
+use native.Mathlib.Omega.{arith}
 use lib.ListN.{length}
 use Rattle.laws.specs.Perm.{Perm}
 use Rattle.laws.specs.Once.{count}
-use Rattle.wcdma_shape.specs.Rectangle.{rows, prime, cols, cells}
+use Rattle.laws.specs.Keep.{keep}
+use Rattle.wcdma_shape.specs.Rectangle.{rows, primes, prime, cols, cells}
+use Rattle.wcdma_shape.specs.Shape.{prime-listed}
 use Rattle.wcdma_shape.specs.Orders.{rowAt}
+use Rattle.wcdma_setup.specs.Numbers.{isPrime, qOf}
+use Rattle.wcdma_setup.specs.Primes.{Next, primes-all}
+use Rattle.wcdma_setup.specs.Found as numbers
 use Rattle.wcdma.specs.Turbo.{origin, address, addresses, turboL, turboM, padCells}
 use Rattle.wcdma.specs.Full as exchange
 use Rattle.wcdma.specs.Law as law
@@ -52,3 +60,17 @@ exchange-row k = (exchange.first-row k, law.first-alone k)
 -- 59 of the sizes have such a rectangle
 pub exchange-sizes : length fullSizes ≡ 59
 exchange-sizes = touched.sizes-touched
+
+-- "For all 52 primes the search ends by 89": for each p of the table and each of the 19 rows behind row 0, q(i + 1) is at most 89, and it is the least
+-- prime above 6 and above q(i) that has no common divisor with p - 1, of all there are (`Next`). q(0) is 1
+pub q-ends : (p : ℕ) → List·Memᴰ p primes → (i : ℕ) → i < 19 → Next (p - 1) (qOf (p - 1) i) (qOf (p - 1) (suc i)) × (qOf (p - 1) (suc i) ≤ 89)
+q-ends p m i l = numbers.q-ends m i (omega arith)
+
+-- and 89 is reached, for p = 239 in row 19
+pub q-reached : qOf 238 19 ≡ 89
+q-reached = numbers.q-reached
+
+-- the table has 52 numbers, the primes from 7 to 257, and p of every K is one of them
+pub q-primes : (length primes ≡ 52) × (keep (λ x. x) isPrime 7 251 ≡ primes) × ((k : ℕ) → List·Memᴰ (prime k) primes)
+unfolding primes
+q-primes = (refl, primes-all, prime-listed)

@@ -16,7 +16,7 @@ use Rattle.sets.specs.Beside.{besideLines}
 use Rattle.sets.specs.Verdict.{sizeLines, setLines, verdictOf, refusal, refusal-number}
 use Rattle.walks.specs.declared.Walk.{Walk}
 use Rattle.families.specs.Rules.{ruleIn}
-use Rattle.walks.specs.Answer.{planLines, walkLines, oneLines, walkList, walkCells, walkNext, Values, walkValues, walkedOf, foundOf}
+use Rattle.walks.specs.Answer.{walkLines, oneLines, walkList, walkCells, walkNext, Values, walkValues, walkedOf, foundOf}
 use Rattle.tables.specs.Answer.{blockLines, movedOf}
 use Rattle.streams.specs.declared.Stream.{Stream}
 use Rattle.streams.specs.Answers.{startLines, feedLines, startedOf, fedOf}
@@ -73,7 +73,7 @@ pub numbered-join : (ls ms : List Line) → Numbered ls → Numbered ms → Numb
 numbered-join [] ms h k = k
 numbered-join (l ∷ ls) ms h k = (h .0, numbered-join ls ms (h .1) k)
 
-set-numbered : (s : Set) → Numbered (setLines s)
+pub set-numbered : (s : Set) → Numbered (setLines s)
 unfolding setLines
 set-numbered s =
     numbered-join (sizeLines (sizeOf s)) (streamLines s ++ besideLines s) (positive 0, (positive 1, (positive 2, tt)))
@@ -81,19 +81,15 @@ set-numbered s =
 
 one-numbered : (s : Set) (x : ℕ) → Numbered (oneLines s x)
 unfolding oneLines
-one-numbered s x = numbered-join (setLines s) _ (set-numbered s) (positive 7, (positive 3, tt))
+one-numbered s x = numbered-join (setLines s) _ (set-numbered s) (positive 3, tt)
 
 walk-numbered : (way : Way) (w : Walk) → Numbered (walkLines way w)
 unfolding walkLines
-walk-numbered way w = (positive 0, numbered-join (setLines (w .set)) _ (set-numbered (w .set)) (positive 7, (positive 8, tt)))
-
-pub plan-numbered : (s : Set) → Numbered (planLines s)
-unfolding planLines
-plan-numbered s = numbered-join (setLines s) _ (set-numbered s) (positive 7, tt)
+walk-numbered way w = (positive 0, numbered-join (setLines (w .set)) _ (set-numbered (w .set)) (positive 8, tt))
 
 block-numbered : (s : Set) (total i o : ℕ) → Numbered (blockLines s total i o)
 unfolding blockLines
-block-numbered s total i o = numbered-join (planLines s) _ (plan-numbered s) (positive 4, (positive 5, tt))
+block-numbered s total i o = numbered-join (setLines s) _ (set-numbered s) (positive 4, (positive 5, tt))
 
 -- 0 is given exactly when the call says done: the test, an address, a walk, a block of any length ..
 module _ (s : Set) where

@@ -6,21 +6,20 @@ use mathlib.Core.Path.{_≡_}
 use lib.Ieee.{Float}
 use Rattle.laws.specs.Outcome.{done, after, First}
 use Rattle.sets.specs.declared.Set.{Set}
-use Rattle.sets.specs.Verdict.{refusal, refusal-number}
-use Rattle.walks.specs.Answer.{planLines}
+use Rattle.sets.specs.Verdict.{setLines, refusal, refusal-number}
 use Rattle.positions.specs.Heard.{Reception, Kept, held}
 use Rattle.combine.specs.Answer.{addLines, addedOf, toldOf, readLines, readOf}
 use Rattle.flat.specs.Flat.{numberOf}
 use Rattle.lent_sums.specs.Sums.{sumHeld, countHeld, sumOut, countOut}
-use Rattle.tender.specs.Zero.{Numbered, positive, numbered-join, plan-numbered, zero-is-done, number-is-first, out-is-after}
+use Rattle.tender.specs.Zero.{Numbered, positive, numbered-join, set-numbered, zero-is-done, number-is-first, out-is-after}
 
 add-numbered : (s : Set) (b : Reception) (h : Kept) → Numbered (addLines s b h)
 unfolding addLines
-add-numbered s b h = numbered-join (planLines s) _ (plan-numbered s) (positive 4, (positive 5, (positive 13, (positive 12, (positive 14, tt)))))
+add-numbered s b h = numbered-join (setLines s) _ (set-numbered s) (positive 4, (positive 5, (positive 13, (positive 12, (positive 14, tt)))))
 
 read-numbered : (s : Set) (h : Kept) (k : ℕ) → Numbered (readLines s h k)
 unfolding readLines
-read-numbered s h k = numbered-join (planLines s) _ (plan-numbered s) (positive 3, (positive 5, tt))
+read-numbered s h k = numbered-join (setLines s) _ (set-numbered s) (positive 3, (positive 5, tt))
 
 module _ (s : Set) (h : Kept) where
   pub add-zero : (b : Reception) → (numberOf (addedOf s b h) ≡ 0) ↔ (addedOf s b h ≡ done tt)

@@ -1,11 +1,11 @@
 // An accepted set of the turbo family: its K, and the leaf that is asked. M is not walked.
 use laws::Leaf;
-use laws::Single;
 use laws::Way;
 use sets::Set;
-ghost use Rattle.laws.specs.Walk.{SingleOf};
+ghost use mathlib.Core.Path.{_≡_};
+ghost use Prim.Native.Nat.{_<_};
 ghost use Rattle.profiles.specs.declared.Family.the-variants.{Turbo};
-ghost use Rattle.families.specs.Rules.{ruleOf, ruleIn};
+ghost use Rattle.families.specs.Rules.{ruleIn};
 ghost use Rattle.families.specs.Taken.{Taken, WalkLeaf};
 
 pub fn walk(way: Way, set: Set, cell: usize, out: &mut [u16]) -> Leaf
@@ -18,9 +18,9 @@ pub fn walk(way: Way, set: Set, cell: usize, out: &mut [u16]) -> Leaf
     }
 }
 
-pub fn address(way: Way, set: Set, x: usize) -> Single
-    requires { ⌜ Taken set Turbo ⌝ }
-    ensures { λ r. ⌜ SingleOf (set .n) (ruleOf set) (ruleIn way set .l) x r ⌝ }
+pub fn address(way: Way, set: Set, x: usize) -> usize
+    requires { ⌜ Taken set Turbo × (x < set .n) ⌝ }
+    ensures { λ r. ⌜ r ≡ ruleIn way set .l x ⌝ }
 {
     match way {
         Way::Interleaver => wcdma_walk::address_of(set.n as usize, x),

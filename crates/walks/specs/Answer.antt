@@ -1,12 +1,14 @@
 -- What the calls on a set answer, either way: their lines in the order of document 01, with 16 of request 4 and 11 and 10 of request 6
--- after 3: 1, 2, 3, 16, 11, 10, 8, 4, 9; their values, and the slice after a walk. A way is a parameter, so that both walks and both addresses have one definition.
+-- after 3: 1, 2, 3, 16, 11, 10, 4, 9; their values, and the slice after a walk. A way is a parameter, so that both walks and both addresses have one
+-- definition.
 use Prim.Native.Nat.{ℕ, _+_}
 use mathlib.Core.List.{List, [], _∷_, _++_}
 use mathlib.Core.Path.{_≡_, refl}
+use lib.Dec.{leb}
 use lib.ListN.{length}
 use Rattle.laws.specs.declared.Way.{Way}
 use Rattle.laws.specs.Outcome.{Outcome, done, refused, apart, Line, line, judged, after}
-use Rattle.laws.specs.Walk.{leafLines, singleLines}
+use Rattle.laws.specs.Walk.{leafLines}
 use Rattle.laws.specs.Walk as along
 use Rattle.sets.specs.declared.Set.{Set}
 use Rattle.sets.specs.declared.Refusal.{Refusal}
@@ -17,20 +19,16 @@ use Rattle.walks.specs.declared.Walked.{Walked}
 use Rattle.walks.specs.declared.Walked.the-variants.{Done, Refused}
 use Rattle.walks.specs.declared.Found.{Found}
 use Rattle.walks.specs.declared.Found.the-variants as found
-use Rattle.families.specs.Rules.{ruleOf, ruleIn, barred}
-
--- the lines that stand before a block's lengths: 1, 2, 3, 16, 11, 10, then 8, that the search for q gives up
-unfoldable pub planLines : Set → List Line
-planLines s = setLines s ++ (line 8 (ruleOf s .fails) ∷ [])
+use Rattle.families.specs.Rules.{ruleIn, barred}
 
 -- a walk: 1 also where the way is M's and M is not walked, and that stands where 1 does; then 1, 2, 3, 16, 11, 10, and what its rule may be refused
--- for, 8 and 9, a cell past the total
+-- for, 9, a cell past the total
 unfoldable pub walkLines : Way → Walk → List Line
 walkLines way w = line 1 (barred way (familyOf (w .set))) ∷ (setLines (w .set) ++ leafLines (ruleIn way (w .set)) (w .cell))
 
--- one address, either way: 1, 2, 3, 16, 11, 10, 8, and 4, a position that is N or more
+-- one address, either way: 1, 2, 3, 16, 11, 10, and 4, a position that is N or more
 unfoldable pub oneLines : Set → ℕ → List Line
-oneLines s x = setLines s ++ singleLines (s .n) (ruleOf s) x
+oneLines s x = setLines s ++ (line 4 (leb (s .n) x) ∷ [])
 
 -- a walk with room for so many addresses: what it writes, the cells it examines, the padding it passes, the slice after it
 module _ (way : Way) (w : Walk) where

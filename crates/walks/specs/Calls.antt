@@ -135,11 +135,10 @@ module _ (way : Way) where
   goes-on w room more {v} e =
       let done = done-clear (refusal (w .set)) (walkValues way w room) (walkLines way w) v e in
       let back = first-clear (leafLines (ruleIn way (w .set)) (w .cell)) (clear-back (setLines (w .set)) _ (clear-first (setLines (w .set) ++ leafLines (ruleIn way (w .set)) (w .cell)) (done .0 .1))) in
-      let h = pieces.cells-within (w .set .n) (ruleIn way (w .set)) (w .cell) room (ltb-false _ _ (back .1 .0)) in
+      let h = pieces.cells-within (w .set .n) (ruleIn way (w .set)) (w .cell) room (ltb-false _ _ (back .0)) in
       rw (sym (done .1))
       (rw (
         done .0 .0,
         clear-then (setLines (w .set)) _ (clear-front (setLines (w .set)) _ (clear-first (setLines (w .set) ++ leafLines (ruleIn way (w .set)) (w .cell)) (done .0 .1))),
-        back .0,
         le-ltb (ruleIn way (w .set) .total) (w .cell + walkCells way w room) h,
       ))

@@ -1,29 +1,25 @@
 -- Behind the test of a set: a refused set is refused by every call, and of an accepted one what its leaf says is the answer.
-use Prim.Native.Nat.{ℕ, _+_}
+use Prim.Native.Nat.{ℕ, _+_, _≤_, _<_}
 use mathlib.Core.Bool.{Bool, true, false, cond}
 use mathlib.Core.List.{List, _∷_, _++_}
 use mathlib.Core.Path.{_≡_, refl, sym, ap, _∙_}
+use native.Mathlib.Omega.{arith}
 use lib.ListN.{length}
+use borrow.Author.Tests.{le-leb, lt-leb}
 use Rattle.laws.specs.declared.Way.{Way}
-use Rattle.laws.specs.Outcome.{Outcome, done, refused, Line, line, first, Ruling, settle, judged, after, done-front, refused-front, kept-front}
+use Rattle.laws.specs.Outcome.{Outcome, done, refused, Line, line, first, Ruling, settle, judged, after, refused-front, kept-front}
 use Rattle.laws.specs.declared.Leaf.{Leaf}
-use Rattle.laws.specs.declared.Single.{Single}
-use Rattle.laws.specs.Walk.{Counts, walkCounts, leafLines, singleLines, sayLeaf, saySingle, SingleOf}
+use Rattle.laws.specs.Walk.{Counts, walkCounts, leafLines, sayLeaf, n-le}
 use Rattle.laws.specs.Leaves.{carry, carry-judged}
 use Rattle.sets.specs.declared.Set.{Set}
 use Rattle.sets.specs.declared.Refusal.{Refusal}
 use Rattle.sets.specs.Set.{familyOf}
 use Rattle.sets.specs.Verdict.{setLines, refusal, verdictOf}
 use Rattle.walks.specs.declared.Walk.{Walk}
-use Rattle.families.specs.Rules.{ruleOf, ruleIn, barred}
-use Rattle.sets.specs.Admits.{Accepted}
+use Rattle.families.specs.Rules.{ruleIn, barred, lawful-way}
+use Rattle.sets.specs.Admits.{Accepted, accepted-front}
 use Rattle.families.specs.Taken.{wayLines, WalkLeaf}
 use Rattle.walks.specs.Answer.{walkLines, oneLines, Values, values, walkNext, walkSlice, walkValues, walkedOf, sliceOf, foundOf}
-
--- the lines of the set are clear, so the lines behind them decide
-pub accepted-front : (s : Set) (more : List Line) → Accepted s → first (setLines s ++ more) ≡ first more
-unfolding verdictOf
-accepted-front s more e = done-front (refusal s) tt tt (setLines s) more e
 
 -- a set that is refused is refused by its walk, with 1 where that is not had, and no slice changes
 module _ (way : Way) (w : Walk) {x : Refusal} (e : verdictOf (w .set) ≡ refused x) where
@@ -67,16 +63,21 @@ module _ (way : Way) (w : Walk) (e : Accepted (w .set)) {old new : List ℕ} {le
   unfolding sliceOf
   leaf-slice = o .slice ∙ ap (λ (x : Ruling). settle x (λ k. old) (walkSlice way w old)) (sym (only-leaf way w e))
 
--- one address: the same
+-- one address: a refused set, a position that is N or more, or the address
 module _ (way : Way) (s : Set) (x : ℕ) where
-  pub single-refused : {y : Refusal} → verdictOf s ≡ refused y → refused y ≡ foundOf way s x
+  pub one-refused : {y : Refusal} → verdictOf s ≡ refused y → refused y ≡ foundOf way s x
   unfolding foundOf oneLines verdictOf
-  single-refused e = sym (refused-front (refusal s) tt (setLines s) _ e _)
+  one-refused e = sym (refused-front (refusal s) tt (setLines s) _ e _)
 
-  pub single-answer : {one : Single} → Accepted s → SingleOf (s .n) (ruleOf s) (ruleIn way s .l) x one
-      → {r : Outcome Refusal ℕ} → r ≡ carry (refusal s) (λ a. a) (saySingle one) → r ≡ foundOf way s x
-  unfolding foundOf oneLines
-  single-answer e o says =
-      says ∙ ap (carry (refusal s) (λ a. a)) (o .answer)
-      ∙ carry-judged (refusal s) (λ a. a) (singleLines (s .n) (ruleOf s) x) (ruleIn way s .l x)
-      ∙ ap (λ (y : Ruling). settle y (λ k. refused (refusal s k)) (done (ruleIn way s .l x))) (sym (accepted-front s _ e))
+  module _ (e : Accepted s) where
+    pub one-past : {y : Refusal} → s .n ≤ x → y ≡ refusal s 4 → refused y ≡ foundOf way s x
+    unfolding foundOf oneLines
+    one-past h q = rw (accepted-front s _ e, le-leb (s .n) x h) (ap refused q)
+
+    pub one-found : {a : ℕ} → x < s .n → a ≡ ruleIn way s .l x → done a ≡ foundOf way s x
+    unfolding foundOf oneLines
+    one-found h q = rw (accepted-front s _ e, lt-leb (s .n) x h) (ap done q)
+
+    -- which fits 32 bits
+    pub one-small : x < s .n → ruleIn way s .l x < 65536
+    one-small h = let w = lawful-way way s e in omega (arith, w .perm .l-below x h, n-le w, w .small)

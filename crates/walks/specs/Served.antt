@@ -1,46 +1,25 @@
--- Accepted means served: a set that the test accepts is refused by no other call for its own numbers. The search for q never gives up, so
--- number 8 is never said; a walk is done from every cell up to the total, an address is found at every position below N.
+-- Accepted means served: a set that the test accepts is refused by no other call for its own numbers. A walk is done from every cell up to the total,
+-- an address is found at every position below N.
 use Prim.Native.Nat.{ℕ, _≤_, _<_}
 use mathlib.Core.Bool.{false}
 use mathlib.Core.Logic.{inl, inr}
-use mathlib.Core.Path.{_≡_, refl, _∙_}
-use borrow.Author.Tests.{le-ltb, lt-leb}
+use mathlib.Core.Path.{_≡_, refl, sym}
+use borrow.Author.Tests.{le-ltb}
 use Rattle.laws.specs.declared.Way.{Way}
 use Rattle.laws.specs.declared.Way.the-variants.{Interleaver, Deinterleaver}
-use Rattle.laws.specs.Outcome.{done, clear, first}
+use Rattle.laws.specs.Outcome.{done}
 use Rattle.sets.specs.declared.Set.{Set}
 use Rattle.profiles.specs.declared.Family.{Family}
 use Rattle.profiles.specs.declared.Family.the-variants.{Carrier, Spatial, Turbo, Quadratic}
 use Rattle.sets.specs.Set.{familyOf}
 use Rattle.sets.specs.Numbered.{turbo-five, quadratic-eight}
-use Rattle.wcdma_setup.specs.Found.{search-ends}
 use Rattle.walks.specs.declared.Walk.{Walk}
-use Rattle.families.specs.Rules.{familyRule, ruleOf, ruleIn, oneWay, barred}
-use Rattle.walks.specs.Answer.{planLines, walkLines, oneLines, walkValues, walkedOf, foundOf}
-use Rattle.sets.specs.Admits.{Accepted}
+use Rattle.families.specs.Rules.{ruleIn, oneWay, barred}
+use Rattle.walks.specs.Answer.{walkLines, walkValues, walkedOf, foundOf}
+use Rattle.sets.specs.Admits.{Accepted, accepted-front}
 use Rattle.families.specs.Taken.{Walkable}
-use Rattle.walks.specs.Passed.{accepted-front}
+use Rattle.walks.specs.Passed.{one-found}
 use Rattle.walks.specs.Refusals.{NotWalked}
-
--- no set's set-up gives up
-pub never-fails : (s : Set) → ruleOf s .fails ≡ false
-unfolding ruleOf
-never-fails s = go (familyOf s)
-  where
-    go : (f : Family) → familyRule f s .fails ≡ false
-    go Carrier = refl
-    go Spatial = refl
-    go Turbo = search-ends (s .n)
-    go Quadratic = refl
-
-never-fails-in : (way : Way) (s : Set) → ruleIn way s .fails ≡ false
-never-fails-in Interleaver s = never-fails s
-never-fails-in Deinterleaver s = refl
-
--- no line of a call on a set but those of its own lengths, cell or position applies
-pub plan-clear : (s : Set) → Accepted s → first (planLines s) ≡ clear
-unfolding planLines
-plan-clear s e = accepted-front s _ e ∙ rw (never-fails s)
 
 -- a walk is had but for M of profiles 5 and 8
 pub walkable-listed : (way : Way) (s : Set) → Accepted s → (way ≡ Deinterleaver → NotWalked s → ⊥) → Walkable way s
@@ -60,8 +39,7 @@ pub walk-served : (way : Way) (w : Walk) (room : ℕ) → Walkable way (w .set) 
     → walkedOf way w room ≡ done (walkValues way w room)
 unfolding walkedOf walkLines
 walk-served way w room h l =
-    rw (h .had, accepted-front (w .set) _ (h .accepted), never-fails-in way (w .set), le-ltb (ruleIn way (w .set) .total) (w .cell) l)
+    rw (h .had, accepted-front (w .set) _ (h .accepted), le-ltb (ruleIn way (w .set) .total) (w .cell) l)
 
 pub address-served : (way : Way) (s : Set) (x : ℕ) → Accepted s → x < s .n → foundOf way s x ≡ done (ruleIn way s .l x)
-unfolding foundOf oneLines
-address-served way s x e h = rw (accepted-front s _ e, never-fails s, lt-leb (s .n) x h)
+address-served way s x e h = sym (one-found way s x e h refl)

@@ -1,41 +1,14 @@
--- What a walk of an accepted set writes, from any cell and with any room: L, or M, on from there. And a table that a walk for L from cell 0 filled.
+-- What a walk of an accepted set writes, from any cell and with any room: L, or M, on from there.
 use Prim.Native.Nat.{ℕ, min, _-_, _≤_, _<_}
-use mathlib.Core.List.{List}
 use mathlib.Core.Path.{_≡_, sym, ap, subst, _∙_}
-use native.Mathlib.Omega.{arith}
-use lib.ListN.{length}
-use borrow.Author.Tests.{le-ltb}
 use Rattle.laws.specs.declared.Way.the-variants.{Interleaver, Deinterleaver}
-use Rattle.laws.specs.Outcome.{clear, first, first-join, clear-front, first-clear, clear-done}
 use Rattle.laws.specs.Run.{run}
-use Rattle.laws.specs.Loop.{by}
-use Rattle.laws.specs.Walk.{Rule, bareRule, passedBy, bare-behind, bare-cells, leafLines}
+use Rattle.laws.specs.Walk.{Rule, bareRule, passedBy, bare-behind, bare-cells}
 use Rattle.laws.specs.Walk as along
-use Rattle.sets.specs.declared.Set.{Set}
-use Rattle.sets.specs.Verdict.{setLines, refusal, verdictOf}
 use Rattle.walks.specs.declared.Walk.{Walk}
 use Rattle.families.specs.Rules.{ruleOf, L, M, lawful, lawful-way}
-use Rattle.walks.specs.Answer.{planLines, walkLines, walkList, walkCells, walkSlice}
+use Rattle.walks.specs.Answer.{walkList, walkCells}
 use Rattle.sets.specs.Admits.{Accepted}
-
--- the record at the beginning
-abbrev pub begin : Set → Walk
-begin s = record { set = s; cell = 0 }
-
--- the walk for L from there is refused by 1, 2, 3, 16, 11, 10 and 8 alone
-pub begin-lines : (s : Set) → first (walkLines Interleaver (begin s)) ≡ first (planLines s)
-unfolding walkLines planLines
-begin-lines s =
-    first-join (setLines s) (leafLines (ruleOf s) 0)
-    ∙ rw (le-ltb (ruleOf s .total) 0 (omega arith)) (sym (first-join (setLines s) _))
-
-pub plan-accepted : (s : Set) → first (planLines s) ≡ clear → Accepted s
-unfolding planLines verdictOf
-plan-accepted s e = clear-done (refusal s) tt (setLines s) (first-clear (setLines s) (clear-front (setLines s) _ e))
-
--- a table with room for N that it filled is L
-pub table-is : (s : Set) (old : List ℕ) → Accepted s → s .n ≤ length old → (t : ℕ) → t < s .n → by (walkSlice Interleaver (begin s) old) t ≡ L s t
-table-is s old e h t l = along.table-is (lawful s e) old h t l
 
 -- how many addresses, no padding, the walk for L has behind it at its cell
 abbrev pub behind : Walk → ℕ

@@ -1,19 +1,18 @@
-// The public calls on a parameter set: the walk for L, the walk for M, one address either way. Every input is tested inside. Here a set is
-// tested and the call given to its family, in crate leaves. A way stands for a list: L for the interleaver, which
-// takes output t from input L(t), and M for the deinterleaver, which takes output k from input M(k).
+// The public calls on a parameter set: the walk for L, the walk for M, one address either way. Every input is tested inside. Here a set and a
+// position are tested and the call given to the set's family, in crate leaves; a cell is tested there, since the total is the family's. A way stands
+// for a list: L for the interleaver, which takes output t from input L(t), and M for the deinterleaver, which takes output k from input M(k).
 ghost use mathlib.Core.Bool.{cond};
 ghost use mathlib.Core.Path.{_≡_};
 ghost use lib.ListN.{length};
 ghost use Rattle.laws.specs.declared.Way.the-variants.{Interleaver, Deinterleaver};
-ghost use Rattle.laws.specs.Walk.{sayLeaf, saySingle};
-ghost use Rattle.laws.specs.Leaves.{Fits, Small, carry};
+ghost use Rattle.laws.specs.Walk.{sayLeaf};
+ghost use Rattle.laws.specs.Leaves.{Fits, carry};
 ghost use Rattle.sets.specs.Set.{familyOf};
 ghost use Rattle.sets.specs.Verdict.{refusal};
 ghost use Rattle.families.specs.Rules.{barred};
 ghost use Rattle.walks.specs.Answer.{walkedOf, sliceOf, foundOf, sayWalked, sayFound};
 ghost use Rattle.walks.specs.Passed.{onward};
 use laws::Leaf;
-use laws::Single;
 use laws::Way;
 use sets::Refusal;
 use sets::Set;
@@ -72,19 +71,8 @@ fn finish_walk(w: Walk, leaf: Leaf) -> Walked
     }
 }
 
-// The answer for one address from its leaf's.
-fn finish_one(set: Set, one: Single) -> Found
-    requires { ⌜ Small one ⌝ }
-    ensures { λ r. ⌜ sayFound r ≡ carry (refusal set) (λ a. a) (saySingle one) ⌝ }
-{
-    match one {
-        Single::Barred(k) => Found::Refused(sets::refusal_of(set, k)),
-        Single::At(a) => Found::At(a as u32),
-    }
-}
-
 // The walk of a way: writes the addresses of L or M from a cell on, cell by cell, without padding; stops right after the slice is full, or at
-// the cell total. Refusals 1, for M also of profiles 5 and 8, 2, 3, 16, 11, 10, 8, 9.
+// the cell total. Refusals 1, for M also of profiles 5 and 8, 2, 3, 16, 11, 10, 9.
 pub fn walk_by(way: Way, w: Walk, out: &mut [u16]) -> Walked
     ensures answer { λ r. ⌜ sayWalked r ≡ walkedOf way w (length (now (out .entry))) ⌝ }
     ensures slice { λ r. ⌜ now (out .exit) ≡ sliceOf way w (now (out .entry)) ⌝ }
@@ -115,7 +103,7 @@ pub fn walk_m(w: Walk, out: &mut [u16]) -> Walked
     walk_by(Way::Deinterleaver, w, out)
 }
 
-// One address, of L or M. Refusals 1, 2, 3, 16, 11, 10, 8, 4.
+// One address, of L or M. Refusals 1, 2, 3, 16, 11, 10, 4.
 pub fn address_by(way: Way, set: Set, x: u32) -> Found
     ensures { λ r. ⌜ sayFound r ≡ foundOf way set x ⌝ }
 {
@@ -123,8 +111,10 @@ pub fn address_by(way: Way, set: Set, x: u32) -> Found
     match v {
         Verdict::Refused(x) => Found::Refused(x),
         Verdict::Accepted => {
-            let one = leaves::address(way, set, x as usize);
-            finish_one(set, one)
+            if x >= set.n {
+                return Found::Refused(sets::refusal_of(set, 4));
+            }
+            Found::At(leaves::address(way, set, x as usize) as u32)
         }
     }
 }

@@ -32,7 +32,7 @@ plain k cell = origin k (cell % rows k) (cell / rows k)
 
 -- the rule of a block with other addresses. (A walk reads a rule's total and addresses, and nothing else of it.)
 abbrev pub ruleBy : ℕ → (ℕ → ℕ) → Rule
-ruleBy k a = let r = turboRule k in record { total = r .total; address = a; l = r .l; m = r .m; fails = r .fails }
+ruleBy k a = let r = turboRule k in record { total = r .total; address = a; l = r .l; m = r .m }
 
 -- with those that the walk makes, the exchange of a full rectangle left out
 abbrev pub plainRule : ℕ → Rule

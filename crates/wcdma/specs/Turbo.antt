@@ -11,7 +11,7 @@ use Rattle.laws.specs.Position.{position}
 use Rattle.laws.specs.Walk.{Rule}
 use Rattle.wcdma_shape.specs.Rectangle.{rows, prime, cols, cells}
 use Rattle.wcdma_shape.specs.Powers.{power, root}
-use Rattle.wcdma_setup.specs.Numbers.{qOf, searchFails}
+use Rattle.wcdma_setup.specs.Numbers.{qOf}
 use Rattle.wcdma_shape.specs.Orders.{rowAt}
 
 -- U(j) where s is the power that belongs to column j: s - 1 if C = p - 1; else s for j < p - 1, 0 for j = p - 1, p for j = p
@@ -57,9 +57,9 @@ turboL k t = getD (addresses k) t 0
 unfoldable pub turboM : ℕ → ℕ → ℕ
 turboM k a = position a (addresses k)
 
--- the rule of a block of K: cells are those of the rectangle, and the set-up gives up where its search for q does
+-- the rule of a block of K: cells are those of the rectangle
 abbrev pub turboRule : ℕ → Rule
-turboRule k = record { total = cells k; address = address k; l = turboL k; m = turboM k; fails = searchFails k }
+turboRule k = record { total = cells k; address = address k; l = turboL k; m = turboM k }
 
 -- how many of its cells are padding
 unfoldable pub padCells : ℕ → ℕ

@@ -16,9 +16,14 @@ next-step : (m q : ℕ) → q < 89 → nextIn m (suc q) (89 - q) ≡ cond (passe
 unfolding nextIn
 next-step m q h = rw (let e : 89 - q ≡ suc (89 - suc q) = omega arith in e)
 
-pub next-end : (m q : ℕ) → 89 ≤ q → nextIn m (suc q) (89 - q) ≡ 0
+-- where one is still to be found, 89 is not reached
+pub below-89 : (m q : ℕ) → (nextIn m (suc q) (89 - q) ≡ 0 → ⊥) → q < 89
 unfolding nextIn
-next-end m q h = rw (let e : 89 - q ≡ 0 = omega arith in e)
+below-89 m q h = go (ltb q 89) refl
+  where
+    go : (b : Bool) → ltb q 89 ≡ b → q < 89
+    go true e = ltb-true q 89 e
+    go false e = let l = ltb-false q 89 e in absurd (h (rw (let e : 89 - q ≡ 0 = omega arith in e)))
 
 pub even-prime : (q : ℕ) → 2 < q → q % 2 ≡ 0 → isPrime q ≡ false
 unfolding isPrime noDivisor

@@ -1,19 +1,18 @@
--- The numbers q of the 52 primes: each of the twenty is found, is the next prime that it is to be, and has an inverse modulo p - 1. One
--- computed test over the table. Rests on Numbers and Primes.
-use Prim.Native.Nat.{ℕ, zero, suc, _+_, _*_, _-_, _/_, _%_, _<_}
-use mathlib.Core.Bool.{Bool, true, false, cond, _&&_}
+-- The numbers q of the 52 primes: each of the twenty is found by 89, is the next prime that it is to be, and has an inverse modulo p - 1. One
+-- computed test over the table, and the law that takes it to each prime. Rests on Numbers and Primes.
+use Prim.Native.Nat.{ℕ, zero, suc, _+_, _*_, _-_, _/_, _%_, _≤_, _<_}
+use mathlib.Core.Bool.{Bool, true, cond, _&&_}
 use mathlib.Core.List.{List·Memᴰ}
 use mathlib.Core.Path.{_≡_, refl, ap, sym, _∙_, subst}
 use native.Mathlib.Nat.{zero-add, zero-mul, zero-mod, add-zero, add-suc, suc-add}
 use native.Mathlib.Omega.{arith}
 use lib.Dec.{eqb}
-use borrow.Author.Tests.{eqb-true, ne-eqb}
+use borrow.Author.Tests.{eqb-true}
 use Rattle.laws.specs.Euclid.{gcdIn, gcd}
 use Rattle.laws.specs.Members.{both, every, at-each}
-use Rattle.wcdma_shape.specs.Rectangle.{rows, primes}
-use Rattle.wcdma_setup.specs.Numbers.{noDivisor, isPrime, passes, nextIn, nextQ, qOf, allFound, searchFails}
-use Rattle.wcdma_shape.specs.Shape.{rows-pos, rows-le, prime-listed}
-use Rattle.wcdma_setup.specs.Primes.{Next, next-is}
+use Rattle.wcdma_shape.specs.Rectangle.{primes}
+use Rattle.wcdma_setup.specs.Numbers.{noDivisor, isPrime, passes, nextIn, nextQ, qOf}
+use Rattle.wcdma_setup.specs.Primes.{Next, next-is, next-low}
 
 -- q has an inverse modulo m
 pub record Unitary (m q : ℕ) : Type 0 where
@@ -55,23 +54,18 @@ module _ {p : ℕ} (m : List·Memᴰ p primes) where
       subst (λ (y : ℕ). Unitary (p - 1) (qOf (p - 1) y)) (zero-add i)
       (q-ok (p - 1) 20 0 (at-each (λ p. okQ (p - 1) 1 20) primes numbers-tested m) i l)
 
-  q-not-zero : (i : ℕ) → i < 20 → qOf (p - 1) i ≡ 0 → ⊥
-  q-not-zero i l e =
+  pub q-found : (i : ℕ) → i < 20 → qOf (p - 1) i ≡ 0 → ⊥
+  q-found i l e =
       let u = q-unit i l in
       let z : _≡_ {A = ℕ} 0 1 = sym (ap (λ (x : ℕ). x % (p - 1)) (ap (λ (x : ℕ). x * u .back) e ∙ zero-mul (u .back)) ∙ zero-mod (p - 1)) ∙ u .inverse in
       omega arith
 
-  -- each next q is the least prime above 6 and above the last with no common divisor with p - 1
-  pub q-next-is : (i : ℕ) → suc i < 20 → Next (p - 1) (qOf (p - 1) i) (qOf (p - 1) (suc i))
+  -- each next q is the least prime above 6 and above the last with no common divisor with p - 1, and the search for it ends by 89
+  pub q-ends : (i : ℕ) → suc i < 20 → Next (p - 1) (qOf (p - 1) i) (qOf (p - 1) (suc i)) × (qOf (p - 1) (suc i) ≤ 89)
   unfolding qOf
-  q-next-is i l = next-is (p - 1) (qOf (p - 1) i) (q-not-zero (suc i) l)
+  q-ends i l = (next-is (p - 1) (qOf (p - 1) i) (q-found (suc i) l), next-low (p - 1) (qOf (p - 1) i))
 
-  found : (x n : ℕ) → x + n < 20 → allFound (p - 1) (qOf (p - 1) x) n ≡ true
-  unfolding allFound qOf
-  found x zero h = refl
-  found x (suc n) h = rw (ne-eqb (nextQ (p - 1) (qOf (p - 1) x)) 0 (q-not-zero (suc x) (omega arith))) (found (suc x) n (omega arith))
-
--- for no size the search passes 89
-pub search-ends : (k : ℕ) → searchFails k ≡ false
-unfolding searchFails qOf
-search-ends k = rw (found (prime-listed k) 0 (rows k - 1) (omega (arith, rows-le k, rows-pos k)))
+-- and 89 is reached: p = 239, where 7 and 17 divide p - 1, row 19
+pub q-reached : qOf 238 19 ≡ 89
+unfolding gcdIn gcd noDivisor isPrime passes nextIn nextQ qOf
+q-reached = refl

@@ -1,5 +1,4 @@
 pub mod Numbers
 pub mod Primes
 pub mod Found
-pub mod Search
 pub mod Post

@@ -1,10 +1,9 @@
--- The numbers q of the rows, 3GPP TS 25.212 4.2.3.2.3.2: primes above 6 with no common divisor with p - 1. The search for each goes up to
--- 89. These are definitions.
+-- The numbers q of the rows, 3GPP TS 25.212 4.2.3.2.3.2: primes above 6 with no common divisor with p - 1. Each is looked for up to 89, and for
+-- each p of the table that is far enough (`q-ends` in Found). These are definitions.
 use Prim.Native.Nat.{ℕ, zero, suc, _-_, _%_}
 use mathlib.Core.Bool.{Bool, true, cond, not, _&&_}
 use lib.Dec.{eqb, ltb}
 use Rattle.laws.specs.Euclid.{gcd}
-use Rattle.wcdma_shape.specs.Rectangle.{rows, prime}
 
 -- none of the n numbers from d on divides q
 unfoldable pub noDivisor : ℕ → ℕ → ℕ → Bool
@@ -32,7 +31,7 @@ nextIn m q (suc n) =
 abbrev pub above : ℕ → ℕ
 above q = cond (ltb q 6) 6 q
 
--- the least number above 6 and above q that passes, at most 89; 0 if there is none
+-- the least number above 6 and above q that passes; 0 if it would be above 89
 unfoldable pub nextQ : ℕ → ℕ → ℕ
 nextQ m q = nextIn m (suc (above q)) (89 - above q)
 
@@ -40,14 +39,3 @@ nextQ m q = nextIn m (suc (above q)) (89 - above q)
 unfoldable pub qOf : ℕ → ℕ → ℕ
 qOf m zero = 1
 qOf m (suc i) = nextQ m (qOf m i)
-
--- n numbers are found after q
-unfoldable pub allFound : ℕ → ℕ → ℕ → Bool
-allFound m q zero = true
-allFound m q (suc n) =
-    let later = allFound m (nextQ m q) n in
-    not (eqb (nextQ m q) 0) && later
-
--- the search for q passes 89 with fewer than R found
-unfoldable pub searchFails : ℕ → Bool
-searchFails k = not (allFound (prime k - 1) 1 (rows k - 1))

@@ -114,3 +114,17 @@ next-is m last h =
   where
     fits : (x : ℕ) → Prime x → gcd m x ≡ 1 → passes m x ≡ true
     fits x p g = rw (prime-is x p, eq-eqb (gcd m x) 1 g)
+
+-- it is at most 89
+none-above : (m q n top : ℕ) → (0 < n → q + n ≤ suc top) → nextIn m q n ≤ top
+unfolding nextIn
+none-above m q zero top h = omega arith
+none-above m q (suc n) top h = go (passes m q) (none-above m (suc q) n top (λ o. let l = h (omega arith) in omega arith))
+  where
+    go : (b : Bool) → nextIn m (suc q) n ≤ top → cond b q (nextIn m (suc q) n) ≤ top
+    go true l = let o = h (omega arith) in omega arith
+    go false l = l
+
+pub next-low : (m last : ℕ) → nextQ m last ≤ 89
+unfolding nextQ
+next-low m last = none-above m (suc (above last)) (89 - above last) 89 (λ o. omega arith)

@@ -1,6 +1,6 @@
 -- What the walk hands to its parts, and what its answer says.
 use Prim.Native.Nat.{ℕ, _+_, _-_, _/_, _%_, _≤_, _<_}
-use mathlib.Core.Bool.{Bool, true, false, not, cond}
+use mathlib.Core.Bool.{Bool, true, false, cond}
 use mathlib.Core.List.{List, _++_}
 use mathlib.Core.Path.{_≡_, refl, ap, ap₂, sym, _∙_, subst}
 use native.Mathlib.Nat.{div-le-of-le-mul, mod-lt, div-add-mod'}
@@ -10,18 +10,15 @@ use lib.ListN.{getD, length, take, drop}
 use lib.Seq.{take-at}
 use Rattle.laws.specs.declared.Leaf.{Leaf}
 use Rattle.laws.specs.declared.Leaf.the-variants.{Went}
-use Rattle.laws.specs.declared.Single.the-variants.{Barred}
-use Rattle.laws.specs.Walk.{walkSlice, LeafOf, SingleOf, table-is}
-use Rattle.laws.specs.Leaves.{WentWell, leaf-went, single-fails}
+use Rattle.laws.specs.Walk.{walkSlice, LeafOf, table-is}
+use Rattle.laws.specs.Leaves.{leaf-went, begun}
 use Rattle.wcdma_shape.specs.declared.Shape.{Shape}
 use Rattle.wcdma_shape.specs.Rectangle.{Size, rows, prime, cols, cells}
 use Rattle.wcdma_shape.specs.Powers.{power, root}
-use Rattle.wcdma_setup.specs.Numbers.{qOf, allFound, searchFails}
 use Rattle.wcdma_shape.specs.Shape.{rows-pos, cols-high, prime-small}
 use Rattle.wcdma_shape.specs.Roots.{Root, prime-root}
 use Rattle.wcdma_shape.specs.Halves.{second-half}
 use Rattle.wcdma_shape.specs.Post.{ShapeOf}
-use Rattle.wcdma_setup.specs.Post.{NumbersOf}
 use Rattle.wcdma_powers.specs.Post.{shortBy}
 use Rattle.wcdma.specs.Turbo.{addresses, turboL, turboRule}
 use Rattle.wcdma.specs.Law.{as-many, turbo-lawful}
@@ -29,7 +26,7 @@ use Rattle.wcdma.specs.Walks.{walk-whole}
 use Rattle.wcdma.specs.Laid.{Rows, Exponents, plainRule}
 use Rattle.wcdma_cells.specs.Post.{FillIn, WentOf}
 use Rattle.wcdma_full.specs.Exchange.{exchangeIn, alike}
-use Rattle.wcdma_walk.specs.Post.{SearchOf, ByIn}
+use Rattle.wcdma_walk.specs.Post.{ByIn}
 
 pub short-le : (c p x : ℕ) → x ≡ shortBy c p → x ≤ 1
 short-le c p x e = rw e (go (eqb c (p - 1)))
@@ -38,14 +35,6 @@ short-le c p x e = rw e (go (eqb c (p - 1)))
     go true = omega arith
     go false = omega arith
 
--- the search for q of a shape is that of its size
-pub searched : (z : Shape) → ShapeOf z → (q : List ℕ) (found : Bool) → NumbersOf (z .p - 1) (z .r) q found → SearchOf (z .k) q found
-unfolding searchFails
-searched z s q found n = record {
-  says = ap not (n .all ∙ ap₂ (λ (p r : ℕ). allFound (p - 1) 1 (r - 1)) (s .prime-is) (s .rows-is));
-  numbers = λ e x l. n .each e x (omega (arith, s .rows-is)) ∙ ap (λ (p : ℕ). qOf (p - 1) x) (s .prime-is);
-}
-
 -- what p and v of a shape are to each other
 pub shape-root : (k : ℕ) {p v : ℕ} → p ≡ prime k → v ≡ root (prime k) → Root p v
 shape-root k e f = rw (e, f) (prime-root k)
@@ -53,7 +42,7 @@ shape-root k e f = rw (e, f) (prime-root k)
 pub power-second : (k x : ℕ) {p v : ℕ} → p ≡ prime k → v ≡ root (prime k) → power p v (x + (p - 1) / 2) ≡ p - power p v x
 power-second k x e f = rw (e, f) (second-half k x)
 
-module _ {z : Shape} {q : List ℕ} {cell : ℕ} (b : ByIn z q cell) where
+module _ {z : Shape} {cell : ℕ} (b : ByIn z cell) where
   pub rows-some : 0 < z .r
   rows-some = omega (arith, rows-pos (z .k), b .shape .rows-is)
 
@@ -86,25 +75,20 @@ exchange-went k cell old h w e =
     let a = alike k cell h old in
     record { answer = w .answer ∙ ap₂ Went (a .written) (a .passed); slice = e ∙ ap (exchangeIn k cell) (w .slice) ∙ a .slice }
 
--- the answer of a walk once the search has ended
-pub went-says : (k cell : ℕ) (old : List ℕ) {y : ℕ} {new : List ℕ} {r : Leaf} → y ≡ k → searchFails k ≡ false → cell ≤ cells k → WentOf y (turboRule y) cell old new r
+-- the answer of a walk that went
+pub went-says : (k cell : ℕ) (old : List ℕ) {y : ℕ} {new : List ℕ} {r : Leaf} → y ≡ k → cell ≤ cells k → WentOf y (turboRule y) cell old new r
     → LeafOf k (turboRule k) cell old new r
-went-says k cell old {y} {new} {r} e f h w =
+went-says k cell old {y} {new} {r} e h w =
     let z : WentOf k (turboRule k) cell old new r = rw e at w in
-    subst (λ (x : Leaf). LeafOf k (turboRule k) cell old new x) (sym (z .answer)) (leaf-went f h refl refl (z .slice))
+    subst (λ (x : Leaf). LeafOf k (turboRule k) cell old new x) (sym (z .answer)) (leaf-went h refl refl (z .slice))
 
--- a table that a walk from cell 0 filled is L
-module _ (k : ℕ) (size : Size k) (old : List ℕ) {table : List ℕ} {a b : ℕ} (h : k ≤ length old) (w : WentWell k (turboRule k) 0 old table a b) where
-  table-whole : table ≡ addresses k ++ drop (length (addresses k)) old
+-- a table that a walk from cell 0 filled is L, as far as it goes
+module _ (k : ℕ) (size : Size k) (old : List ℕ) {table : List ℕ} {leaf : Leaf} (w : LeafOf k (turboRule k) 0 old table leaf) where
+  pub table-at : (i : ℕ) → i < length old → i < k → getD table i 0 ≡ turboL k i
+  table-at i h l = ap (λ (l : List ℕ). getD l i 0) (begun w) ∙ table-is (turbo-lawful k (size .high)) old i h l
+
+  pub table-front : k ≤ length old → take k table ≡ addresses k
   unfolding walkSlice
-  table-whole = w .left ∙ ap (λ (l : List ℕ). l ++ drop (length l) old) (walk-whole k size (length old) h)
-
-  pub table-at : (i : ℕ) → i < k → getD table i 0 ≡ turboL k i
-  table-at i l = ap (λ (l : List ℕ). getD l i 0) (w .left) ∙ table-is (turbo-lawful k (size .high)) old h i l
-
-  pub table-front : take k table ≡ addresses k
-  table-front = ap (take k) table-whole ∙ take-at (addresses k) (drop (length (addresses k)) old) k (as-many k (size .high))
-
--- a walk from cell 0 that was refused was so by 8, and so is one address
-pub barred : (k x : ℕ) {n : ℕ} {f : ℕ → ℕ} → (searchFails k ≡ true) × (n ≡ 8) → SingleOf k (turboRule k) f x (Barred n)
-barred k x {n} {f} e = subst (λ (y : ℕ). SingleOf k (turboRule k) f x (Barred y)) (sym (e .1)) (single-fails (e .0))
+  table-front h =
+      ap (take k) (begun w ∙ ap (λ (l : List ℕ). l ++ drop (length l) old) (walk-whole k size (length old) h))
+      ∙ take-at (addresses k) (drop (length (addresses k)) old) k (as-many k (size .high))

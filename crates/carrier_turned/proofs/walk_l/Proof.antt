@@ -10,7 +10,7 @@ use Rattle.carrier_turned.proofs.walk_l.Statement.{statement}
 use Rattle.carrier_turned.proofs.walk_l.Tie as tie
 
 returns : tie.Need-returns
-returns c = leaf-past refl (c .if1 .taken)
+returns c = leaf-past (c .if1 .taken)
 
 write-l-requires : tie.Need-write-l-requires
 write-l-requires c κs =

@@ -10,7 +10,7 @@ use Rattle.carrier_turned.proofs.walk_m.Statement.{statement}
 use Rattle.carrier_turned.proofs.walk_m.Tie as tie
 
 returns : tie.Need-returns
-returns c = leaf-past refl (c .if1 .taken)
+returns c = leaf-past (c .if1 .taken)
 
 write-m-requires : tie.Need-write-m-requires
 write-m-requires c κs =

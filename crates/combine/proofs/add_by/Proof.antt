@@ -1,45 +1,32 @@
--- `combine::add_by` meets its contract: the refusal of the table, the refusal of the values, or the block added by the table.
+-- `combine::add_by` meets its contract: the table holds L, and then the refusal of the values, or the block added by it.
 use Rattle.positions.specs.Heard.{Reception, Kept, reception, kept}
-use Rattle.tables.specs.Passed.{Filled}
-use Rattle.combine.specs.Passed.{inputOf, outputOf, filled-so, table-refused, sums-kept, counts-kept, fits-table, values-refused, sums-refused, counts-refused, ready, values-done, sums-done, counts-done}
+use Rattle.tables.specs.Passed.{its-set}
+use Rattle.combine.specs.Passed.{fits-table, values-refused, sums-refused, counts-refused, ready, values-done, sums-done, counts-done}
 use borrow.Author.Needs.{needs}
 use Rattle.combine.proofs.add_by.Statement.{statement}
 use Rattle.combine.proofs.add_by.Tie as tie
 
--- what is lent, and what filling the table gives
-module _ (c : tie.After-fill) where
-  abbrev start : tie.Start
-  start = c .before .before .before .before .before .before .before .before .before .before
+-- behind the table: the call
+abbrev start : tie.After-fill → tie.Start
+start c = c .before .before .before .before .before .before .before
 
-  abbrev block : Reception
-  block = reception (start .args .received .now) (start .args .present .now)
-
-  abbrev stored : Kept
-  stored = kept (start .args .sums .now) (start .args .counts .now)
-
-  filled : Filled (start .args .set) (start .args .set .n) (inputOf (start .args .set) block stored) (outputOf (start .args .set) block stored) (c .fill .last .1 .1 .1 .1 .0) (c .fill .result)
-  filled = filled-so (start .args .set) block stored (c .before .before .before .off .ensures) (c .before .before .off2 .ensures) (c .fill .ensures)
+-- behind the values that were judged: the table
+abbrev tabled : tie.After-judge-by → tie.After-fill
+tabled c = c .before .before .before .before .before .before
 
 pub add-by-spec : {M : Type 1} → statement M
 add-by-spec =
     tie.close
     (tie.spec
-    (λ c. search needs)
-    (λ c κs. search needs)
-    (λ c κs. search needs)
-    (λ c κs. search needs)
-    (λ c. search needs)
-    (λ c. search needs)
-    (λ c κs. fits-table _ _ _ (filled (c .before .before .before .before .before .before .before)) (c .before .before .before .enum-told .given .1))
+    (λ c κs. let p = c .before .before .before .before .before .before .pre in (its-set _ _ _ _ (p .0), p .1))
+    (λ c κs. let f = c .before .before .before .before .before in fits-table _ _ _ (start f .pre .0) (f .fill .ensures))
     (λ c κs. search needs)
     (λ c. search needs)
     (λ c. search needs)
     (λ c. search needs)
-    (λ c. let p = filled (c .before .before .before .before .before .before .before .before .before .before) in let e = c .before .before .before .before .before .before .enum-told .given .1 in let j = c .before .before .judge-by .ensures in let n = c .before .if1 .taken in (values-refused _ _ _ p e j n (c .refusal-of .ensures), (sums-refused _ _ _ p e j n, counts-refused _ _ _ p e j n)))
-    (λ c κs. ready _ _ _ (filled (c .before .before .before .before .before .before .before .before .before .before .before .before)) (c .before .before .before .before .before .before .before .before .enum-told .given .1) (c .before .before .before .before .judge-by .ensures) (c .before .before .before .if1 .left))
-    (λ c. search needs)
-    (λ c. let p = filled (c .before .before .before .before .before) in let e = c .before .x .given .1 in (table-refused _ _ _ p e, (sums-kept _ _ _ p e, counts-kept _ _ _ p e)))
+    (λ c. let j = c .before .before in let f = tabled j in let e = start f .pre .0 in let t = f .fill .ensures in let n = c .before .if1 .taken in (values-refused _ _ _ e t (j .judge-by .ensures) n (c .refusal-of .ensures), (sums-refused _ _ _ e t (j .judge-by .ensures) n, counts-refused _ _ _ e t (j .judge-by .ensures) n)))
+    (λ c κs. let i = c .before .before .before in let f = tabled (i .before) in ready _ _ _ (start f .pre .0) (f .fill .ensures) (i .before .judge-by .ensures) (i .if1 .left))
     (λ c. search needs)
     (λ c. search needs)
     (λ c. search needs)
-    (λ c. let p = filled (c .before .before .before .before .before .before .before .before .before .before .before .before .before .before .before .before .before) in let e = c .before .before .before .before .before .before .before .before .before .before .before .before .before .enum-told .given .1 in let j = c .before .before .before .before .before .before .before .before .before .judge-by .ensures in let z = c .before .before .before .before .before .before .before .before .if1 .left in let a = c .before .before .before .before .add-by .ensures in (values-done _ _ _ p e j z, (sums-done _ _ _ p e j z (a .0), counts-done _ _ _ p e j z (a .1)))))
+    (λ c. let i = c .before .before .before .before .before .before .before .before in let f = tabled (i .before) in let e = start f .pre .0 in let t = f .fill .ensures in let j = i .before .judge-by .ensures in let z = i .if1 .left in let a = c .before .before .before .before .add-by .ensures in (values-done _ _ _ e t j z, (sums-done _ _ _ e t j z (a .0), counts-done _ _ _ e t j z (a .1)))))

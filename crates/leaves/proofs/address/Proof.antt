@@ -10,30 +10,32 @@ address-requires : tie.Need-address-requires
 address-requires c κs =
     let i = c in
     let t = i .before in
-    record { accepted = t .before .pre; which = the-turbo _ (sym (t .is-turbo .ensures) ∙ i .if1 .taken) }
+    (record { accepted = t .before .pre .0; which = the-turbo _ (sym (t .is-turbo .ensures) ∙ i .if1 .taken) }, t .before .pre .1)
 
 address-requires-2 : tie.Need-address-requires-2
 address-requires-2 c κs =
     let i = c in
     let t = i .before .before .before in
-    record { accepted = t .before .pre; which = the-spatial _ (sym (i .before .is-spatial .ensures) ∙ i .if2 .taken) }
+    (record { accepted = t .before .pre .0; which = the-spatial _ (sym (i .before .is-spatial .ensures) ∙ i .if2 .taken) }, t .before .pre .1)
 
 address-requires-3 : tie.Need-address-requires-3
 address-requires-3 c κs =
     let i = c in
     let t = i .before .before .before .before .before in
-    record { accepted = t .before .pre; which = the-quadratic _ (sym (i .before .is-quadratic .ensures) ∙ i .if3 .taken) }
+    (record { accepted = t .before .pre .0; which = the-quadratic _ (sym (i .before .is-quadratic .ensures) ∙ i .if3 .taken) }, t .before .pre .1)
 
 address-requires-4 : tie.Need-address-requires-4
 address-requires-4 c κs =
     let i = c in
     let s = i .before .before in
-    let t = s .before .before .before in
-    record {
-      accepted = t .before .pre;
-      which = the-carrier _ (sym (t .is-turbo .ensures) ∙ s .before .before .if1 .left) (sym (s .before .is-spatial .ensures) ∙ s .if2 .left)
-          (sym (i .before .is-quadratic .ensures) ∙ i .if3 .left);
-    }
+    let t = s .before .before .before in (
+      record {
+        accepted = t .before .pre .0;
+        which = the-carrier _ (sym (t .is-turbo .ensures) ∙ s .before .before .if1 .left) (sym (s .before .is-spatial .ensures) ∙ s .if2 .left)
+            (sym (i .before .is-quadratic .ensures) ∙ i .if3 .left);
+      },
+      t .before .pre .1,
+    )
 
 pub address-spec : {M : Type 1} → statement M
 address-spec =

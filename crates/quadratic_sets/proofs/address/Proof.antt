@@ -1,28 +1,29 @@
 -- `quadratic_sets::address` is the set's L or M: the leaf's, at the set's K, f1 and f2.
+use mathlib.Core.Path.{_∙_}
 use Rattle.laws.specs.declared.Way.the-variants.{Interleaver, Deinterleaver}
-use Rattle.families.specs.Families.{quadratic-whole, quadratic-rule, single-in}
+use Rattle.families.specs.Families.{quadratic-whole, quadratic-rule, one-in}
 use borrow.Author.Needs.{needs}
 use Rattle.quadratic_sets.proofs.address.Statement.{statement}
 use Rattle.quadratic_sets.proofs.address.Tie as tie
 
-one-l-requires : tie.Need-one-l-requires
-one-l-requires c κs = quadratic-whole (c .before .before .before .before .before .pre)
+address-of-requires : tie.Need-address-of-requires
+address-of-requires c κs = let p = c .before .before .before .before .before .pre in (quadratic-whole (p .0), p .1)
 
-one-m-requires : tie.Need-one-m-requires
-one-m-requires c κs = quadratic-whole (c .before .before .before .before .before .pre)
+place-of-requires : tie.Need-place-of-requires
+place-of-requires c κs = quadratic-whole (c .before .before .before .before .before .pre .0)
 
 returns : tie.Need-returns
 returns c =
     let t = c .before .before in
-    single-in _ (quadratic-rule (t .before .before .before .before .pre)) Interleaver (t .enum-told .given .1) (c .one-l .ensures)
+    c .address-of .ensures ∙ one-in _ (quadratic-rule (t .before .before .before .before .pre .0)) Interleaver (t .enum-told .given .1) _
 
 returns-2 : tie.Need-returns-2
 returns-2 c =
     let t = c .before .before in
-    single-in _ (quadratic-rule (t .before .before .before .before .pre)) Deinterleaver (t .enum-told2 .given .1) (c .one-m .ensures)
+    c .place-of .ensures ∙ one-in _ (quadratic-rule (t .before .before .before .before .pre .0)) Deinterleaver (t .enum-told2 .given .1) _
 
 pub address-spec : {M : Type 1} → statement M
 address-spec =
     tie.close
-    (tie.spec (λ c. search needs) (λ c. search needs) (λ c. search needs) (λ c. search needs) one-l-requires (λ c. search needs) (λ c. search needs)
-    one-m-requires returns returns-2)
+    (tie.spec (λ c. search needs) (λ c. search needs) (λ c. search needs) (λ c. search needs) address-of-requires (λ c. search needs) (λ c. search needs)
+    place-of-requires returns returns-2)

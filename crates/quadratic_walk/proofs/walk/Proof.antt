@@ -7,7 +7,7 @@ use Rattle.quadratic_walk.proofs.walk.Statement.{statement}
 use Rattle.quadratic_walk.proofs.walk.Tie as tie
 
 returns : tie.Need-returns
-returns c = leaf-past refl (c .if1 .taken)
+returns c = leaf-past (c .if1 .taken)
 
 write-requires : tie.Need-write-requires
 write-requires c κs = record { whole = c .before .before .before .pre; cell-in = c .before .if1 .left }

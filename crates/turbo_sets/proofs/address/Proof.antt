@@ -1,23 +1,24 @@
 -- `turbo_sets::address` is the set's L or M: the leaf's, at the set's K.
+use mathlib.Core.Path.{_∙_}
 use Rattle.laws.specs.declared.Way.the-variants.{Interleaver, Deinterleaver}
-use Rattle.families.specs.Families.{turbo-sized, turbo-rule, single-in}
+use Rattle.families.specs.Families.{turbo-sized, turbo-rule, one-in}
 use borrow.Author.Needs.{needs}
 use Rattle.turbo_sets.proofs.address.Statement.{statement}
 use Rattle.turbo_sets.proofs.address.Tie as tie
 
 address-of-requires : tie.Need-address-of-requires
-address-of-requires c κs = turbo-sized (c .before .before .before .pre)
+address-of-requires c κs = let p = c .before .before .before .pre in (turbo-sized (p .0), p .1)
 
 place-of-requires : tie.Need-place-of-requires
-place-of-requires c κs = turbo-sized (c .before .before .before .pre)
+place-of-requires c κs = turbo-sized (c .before .before .before .pre .0)
 
 returns : tie.Need-returns
 returns c =
-    single-in _ (turbo-rule (c .before .before .before .before .pre)) Interleaver (c .before .before .enum-told .given .1) (c .address-of .ensures)
+    c .address-of .ensures ∙ one-in _ (turbo-rule (c .before .before .before .before .pre .0)) Interleaver (c .before .before .enum-told .given .1) _
 
 returns-2 : tie.Need-returns-2
 returns-2 c =
-    single-in _ (turbo-rule (c .before .before .before .before .pre)) Deinterleaver (c .before .before .enum-told2 .given .1) (c .place-of .ensures)
+    c .place-of .ensures ∙ one-in _ (turbo-rule (c .before .before .before .before .pre .0)) Deinterleaver (c .before .before .enum-told2 .given .1) _
 
 pub address-spec : {M : Type 1} → statement M
 address-spec =

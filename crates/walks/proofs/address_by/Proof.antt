@@ -1,9 +1,9 @@
--- `walks::address_by` meets its contract: a refused set is refused, and else the family's address is carried on.
+-- `walks::address_by` meets its contract: a refused set is refused, then a position that is N or more, and else it is the family's address.
 use mathlib.Core.Path.{sym, ap, _∙_}
-use Rattle.laws.specs.Leaves.{single-fits}
+use native.Mathlib.Omega.{arith}
 use Rattle.sets.specs.Verdict.{sayVerdict}
-use Rattle.families.specs.Rules.{lawful, lawful-way}
-use Rattle.walks.specs.Passed.{single-refused, single-answer}
+use Rattle.sets.specs.Admits.{Accepted}
+use Rattle.walks.specs.Passed.{one-refused, one-past, one-found, one-small}
 use borrow.Author.Needs.{needs}
 use Rattle.walks.proofs.address_by.Statement.{statement}
 use Rattle.walks.proofs.address_by.Tie as tie
@@ -17,20 +17,31 @@ enum-known-v c = search needs
 enum-told : tie.Need-enum-told
 enum-told c = search needs
 
-address-requires : tie.Need-address-requires
-address-requires c κs = sym (c .before .before .test .ensures) ∙ ap sayVerdict (c .enum-told .given .1)
+-- the test of the set told
+accepted : (c : tie.After-enum-told) → Accepted (c .before .before .before .args .set)
+accepted c = sym (c .before .before .test .ensures) ∙ ap sayVerdict (c .enum-told .given .1)
 
-finish-one-requires : tie.Need-finish-one-requires
-finish-one-requires c κs =
-    let e = sym (c .before .before .before .test .ensures) ∙ ap sayVerdict (c .before .enum-told .given .1) in
-    single-fits (lawful _ e) (lawful-way (c .before .before .before .before .args .way) _ e .perm .l-below) _ (c .address .ensures)
+refusal-of-requires : tie.Need-refusal-of-requires
+refusal-of-requires c κs = search needs
 
 returns : tie.Need-returns
-returns c = single-refused _ _ _ (sym (c .before .before .before .test .ensures) ∙ ap sayVerdict (c .before .v .given .1))
+returns c = let e = c .before .before .before in one-past _ _ _ (accepted e) (c .before .if1 .taken) (c .refusal-of .ensures)
+
+address-requires : tie.Need-address-requires
+address-requires c κs = let e = c .before .before in (accepted e, omega (arith, c .if1 .left))
+
+cast-t11 : tie.Need-cast-t11
+cast-t11 c =
+    let i = c .before in
+    let e = i .before .before in
+    let a = e .before .before .before .args in
+    omega (arith, c .address .ensures, one-small (a .way) (a .set) (a .x) (accepted e) (omega (arith, i .if1 .left)))
 
 returns-2 : tie.Need-returns-2
-returns-2 c =
-    single-answer _ _ _ (sym (c .before .before .before .before .test .ensures) ∙ ap sayVerdict (c .before .before .enum-told .given .1)) (c .before .address .ensures) (c .finish-one .ensures)
+returns-2 c = one-refused _ _ _ (sym (c .before .before .before .test .ensures) ∙ ap sayVerdict (c .before .v .given .1))
+
+returns-3 : tie.Need-returns-3
+returns-3 c = let i = c .before in let e = i .before .before in one-found _ _ _ (accepted e) (omega (arith, i .if1 .left)) (c .address .ensures)
 
 pub address-by-spec : {M : Type 1} → statement M
 address-by-spec =
@@ -39,7 +50,9 @@ address-by-spec =
     test-requires
     enum-known-v
     enum-told
-    address-requires
-    finish-one-requires
+    refusal-of-requires
     returns
-    returns-2)
+    address-requires
+    cast-t11
+    returns-2
+    returns-3)

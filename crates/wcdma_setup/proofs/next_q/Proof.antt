@@ -1,12 +1,12 @@
--- `next_q` is the next q, or 0. Invariants: what the search gives from here on is what it gives from the start; and whether the candidate is a
--- prime is the test with the divisors that are left.
+-- `next_q` is the next q. Invariants: what the search gives from here on is what it gives from the start, so that q is below 89; and whether the
+-- candidate is a prime is the test with the divisors that are left.
 use Prim.Native.Nat.{_%_, _*_, _+_, _-_, _<_, _≤_, suc}
 use borrow.Author.Needs.{needs}
 use mathlib.Core.Bool.{true}
 use mathlib.Core.Path.{_∙_, _≡_, refl, sym}
 use native.Mathlib.Nat.{mul-le-mul}
 use native.Mathlib.Omega.{arith}
-use Rattle.wcdma_setup.proofs.Search.{candidate-low, candidate-odd, next-composite, next-end, next-found, next-shared, odd-end, odd-found, odd-not, odd-prime, oddTest, search-on, small-root}
+use Rattle.wcdma_setup.proofs.Search.{below-89, candidate-low, candidate-odd, next-composite, next-found, next-shared, odd-end, odd-found, odd-not, odd-prime, oddTest, search-on, small-root}
 use Rattle.wcdma_setup.specs.Numbers.{isPrime, nextIn, nextQ}
 use Rattle.wcdma_setup.proofs.next_q.Statement.{statement}
 use Rattle.wcdma_setup.proofs.next_q.Tie as tie
@@ -24,78 +24,74 @@ abbrev μ-candidates : tie.MeasureT-candidates
 μ-candidates m last q₀ q = 89 - q
 
 candidates-holds : tie.Need-candidates-holds Inv-loop μ-loop Inv-candidates μ-candidates
-candidates-holds c = (search-on (c .args .m) (c .args .last) (c .pre .0), c .pre .0, c .pre .1)
-
-add-q : tie.Need-add-q Inv-loop μ-loop Inv-candidates μ-candidates
-add-q c = search needs
+candidates-holds c = (search-on (c .args .m) (c .args .last) (c .pre .high), c .pre .high, c .pre .odd)
 
 -- the candidate is odd and at most 89
-low : (c : tie.At-candidates Inv-loop μ-loop Inv-candidates μ-candidates) → c .candidates .q < 89 → c .candidates .q + 2 < 90
-low c h = candidate-low 0 (c .candidates .q) (c .candidates .inv .1) h (c .candidates .inv .2)
+below : (c : tie.At-candidates Inv-loop μ-loop Inv-candidates μ-candidates) → c .candidates .q < 89
+below c = below-89 (c .before .args .m) (c .candidates .q) (λ e. c .before .pre .some (c .candidates .inv .0 ∙ e))
 
-odd : (c : tie.At-candidates Inv-loop μ-loop Inv-candidates μ-candidates) → c .candidates .q < 89 → (c .candidates .q + 2) % 2 ≡ 1
-odd c h = candidate-odd 0 (c .candidates .q) (c .candidates .inv .1) h (c .candidates .inv .2)
+add-q : tie.Need-add-q Inv-loop μ-loop Inv-candidates μ-candidates
+add-q c = omega (arith, below c)
+
+low : (c : tie.At-candidates Inv-loop μ-loop Inv-candidates μ-candidates) → c .candidates .q + 2 < 90
+low c = candidate-low 0 (c .candidates .q) (c .candidates .inv .1) (below c) (c .candidates .inv .2)
+
+odd : (c : tie.At-candidates Inv-loop μ-loop Inv-candidates μ-candidates) → (c .candidates .q + 2) % 2 ≡ 1
+odd c = candidate-odd 0 (c .candidates .q) (c .candidates .inv .1) (below c) (c .candidates .inv .2)
 
 loop-holds : tie.Need-loop-holds Inv-loop μ-loop Inv-candidates μ-candidates
-loop-holds c = let o = c .before in (odd-prime (o .candidates .q + 2) (omega (arith, o .candidates .inv .1)) (low o (c .if1 .left)) (odd o (c .if1 .left)), omega arith, omega arith)
+loop-holds c = (odd-prime (c .candidates .q + 2) (omega (arith, c .candidates .inv .1)) (low c) (odd c), omega arith, omega arith)
 
 mul-loop : tie.Need-mul-loop Inv-loop μ-loop Inv-candidates μ-candidates
 mul-loop c = let h : c .loop .d * c .loop .d ≤ 11 * 11 = mul-le-mul (c .loop .inv .2) (c .loop .inv .2) in omega arith
 
-rem-if2 : tie.Need-rem-if2 Inv-loop μ-loop Inv-candidates μ-candidates
-rem-if2 c = search needs
+rem-if1 : tie.Need-rem-if1 Inv-loop μ-loop Inv-candidates μ-candidates
+rem-if1 c = search needs
 
 candidates-less : tie.Need-candidates-less Inv-loop μ-loop Inv-candidates μ-candidates
-candidates-less c = search needs
+candidates-less c = omega (arith, below (c .before .before .before))
 
 candidates-again : tie.Need-candidates-again Inv-loop μ-loop Inv-candidates μ-candidates
 candidates-again c =
-    let o = c .before .before .before .before in
+    let o = c .before .before .before in
     let l = c .before .before .loop in
-    let t = c .before .before .before .if1 .left in
-    (o .candidates .inv .0 ∙ next-composite _ (o .candidates .q) (o .candidates .inv .1) t (o .candidates .inv .2) (l .inv .0 ∙ odd-found (o .candidates .q + 2) (l .d) (c .before .loop-test .taken) (low o t) (c .if2 .taken)), omega (arith, o .candidates .inv .1), odd o t)
+    (o .candidates .inv .0 ∙ next-composite _ (o .candidates .q) (o .candidates .inv .1) (below o) (o .candidates .inv .2) (l .inv .0 ∙ odd-found (o .candidates .q + 2) (l .d) (c .before .loop-test .taken) (low o) (c .if1 .taken)), omega (arith, o .candidates .inv .1), odd o)
 
 add-d : tie.Need-add-d Inv-loop μ-loop Inv-candidates μ-candidates
 add-d c = search needs
 
 loop-less : tie.Need-loop-less Inv-loop μ-loop Inv-candidates μ-candidates
 loop-less c =
-    let o = c .before .before .before .before in
-    let s = small-root (c .before .before .loop .d) (o .candidates .q + 2) (c .before .loop-test .taken) (low o (c .before .before .before .if1 .left)) in
+    let o = c .before .before .before in
+    let s = small-root (c .before .before .loop .d) (o .candidates .q + 2) (c .before .loop-test .taken) (low o) in
     omega arith
 
 loop-again : tie.Need-loop-again Inv-loop μ-loop Inv-candidates μ-candidates
 loop-again c =
-    let o = c .before .before .before .before in
+    let o = c .before .before .before in
     let l = c .before .before .loop in
-    let t = low o (c .before .before .before .if1 .left) in
-    let s = small-root (l .d) (o .candidates .q + 2) (c .before .loop-test .taken) t in
-    (l .inv .0 ∙ odd-not (o .candidates .q + 2) (l .d) (c .before .loop-test .taken) t (c .if2 .left), omega arith, omega arith)
+    let s = small-root (l .d) (o .candidates .q + 2) (c .before .loop-test .taken) (low o) in
+    (l .inv .0 ∙ odd-not (o .candidates .q + 2) (l .d) (c .before .loop-test .taken) (low o) (c .if1 .left), omega arith, omega arith)
 
 gcd-of-requires : tie.Need-gcd-of-requires Inv-loop μ-loop Inv-candidates μ-candidates
 gcd-of-requires c κs = search needs
 
 -- the candidate after the inner loop is a prime
-is-prime : (c : tie.After-loop Inv-loop μ-loop Inv-candidates μ-candidates) → isPrime (c .before .before .before .candidates .q + 2) ≡ true
+is-prime : (c : tie.After-loop Inv-loop μ-loop Inv-candidates μ-candidates) → isPrime (c .before .before .candidates .q + 2) ≡ true
 is-prime c = c .before .loop .inv .0 ∙ odd-end _ (c .before .loop .d) (c .loop-test .left)
 
 candidates-less-2 : tie.Need-candidates-less-2 Inv-loop μ-loop Inv-candidates μ-candidates
-candidates-less-2 c = search needs
+candidates-less-2 c = omega (arith, below (c .before .before .before .before))
 
 candidates-again-2 : tie.Need-candidates-again-2 Inv-loop μ-loop Inv-candidates μ-candidates
 candidates-again-2 c =
-    let o = c .before .before .before .before .before in
-    let t = c .before .before .before .before .if1 .left in
-    (o .candidates .inv .0 ∙ next-shared _ (o .candidates .q) (o .candidates .inv .1) t (o .candidates .inv .2) (is-prime (c .before .before)) (λ e. c .if3 .left (c .before .gcd-of .ensures ∙ e)), omega (arith, o .candidates .inv .1), odd o t)
+    let o = c .before .before .before .before in
+    (o .candidates .inv .0 ∙ next-shared _ (o .candidates .q) (o .candidates .inv .1) (below o) (o .candidates .inv .2) (is-prime (c .before .before)) (λ e. c .if2 .left (c .before .gcd-of .ensures ∙ e)), omega (arith, o .candidates .inv .1), odd o)
 
 returns : tie.Need-returns Inv-loop μ-loop Inv-candidates μ-candidates
-returns c = record { next-is = sym (c .before .candidates .inv .0 ∙ next-end _ _ (c .if1 .taken)); odd = λ n. absurd (n refl); high = λ n. absurd (n refl) }
-
-returns-2 : tie.Need-returns-2 Inv-loop μ-loop Inv-candidates μ-candidates
-returns-2 c =
-    let o = c .before .before .before .before .before in
-    let t = c .before .before .before .before .if1 .left in
-    record { next-is = sym (o .candidates .inv .0 ∙ next-found _ (o .candidates .q) (o .candidates .inv .1) t (o .candidates .inv .2) (is-prime (c .before .before)) (sym (c .before .gcd-of .ensures) ∙ c .if3 .taken)); odd = λ n. odd o t; high = λ n. omega (arith, o .candidates .inv .1) }
+returns c =
+    let o = c .before .before .before .before in
+    record { next-is = sym (o .candidates .inv .0 ∙ next-found _ (o .candidates .q) (o .candidates .inv .1) (below o) (o .candidates .inv .2) (is-prime (c .before .before)) (sym (c .before .gcd-of .ensures) ∙ c .if2 .taken)); odd = odd o; high = omega (arith, o .candidates .inv .1) }
 
 pub next-q-spec : {M : Type 1} → statement M
 next-q-spec =
@@ -109,7 +105,7 @@ next-q-spec =
     add-q
     loop-holds
     mul-loop
-    rem-if2
+    rem-if1
     candidates-less
     candidates-again
     add-d
@@ -118,5 +114,4 @@ next-q-spec =
     gcd-of-requires
     candidates-less-2
     candidates-again-2
-    returns
-    returns-2)
+    returns)

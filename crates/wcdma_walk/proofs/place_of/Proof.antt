@@ -1,11 +1,10 @@
--- `place_of` is M at any position: 8 by the walk's answer, 4 by its test.
+-- `place_of` is M at a position: the place of it in the front of a table that the walk filled.
 use borrow.Author.Needs.{needs}
 use lib.ListN.{length, take}
 use mathlib.Core.Path.{_∙_, _≡_, ap, sym}
 use native.Mathlib.Omega.{arith}
 use Rattle.laws.specs.Position.{position}
-use Rattle.laws.specs.Leaves.{went-well, stopped-by-8, single-past, single-at}
-use Rattle.wcdma_walk.proofs.Setup.{barred, table-front}
+use Rattle.wcdma_walk.proofs.Setup.{table-front}
 use Rattle.wcdma.specs.Law.{as-many}
 use Rattle.wcdma.specs.Turbo.{addresses, turboM}
 use Rattle.wcdma_walk.proofs.place_of.Statement.{statement}
@@ -17,39 +16,22 @@ slice-aggregate-walk c = search needs
 walk-requires : tie.Need-walk-requires
 walk-requires c κs = search needs
 
-enum-known-walked : tie.Need-enum-known-walked
-enum-known-walked c = search needs
-
-enum-told : tie.Need-enum-told
-enum-told c = search needs
-
 -- the front of the table is L
-front : (c : tie.After-enum-told) → take (c .before .before .before .before .before .args .k) (c .before .before .before .walk .last .1 .1 .0) ≡ addresses (c .before .before .before .before .before .args .k)
-front c =
-    let z = c .before .before .before .before .before .pre in
-    table-front _ z _ (omega (arith, z .high)) (went-well (c .enum-told .given .1) (c .before .before .before .walk .ensures))
-
-returns : tie.Need-returns
-returns c = let e = c .before in single-past (went-well (e .enum-told .given .1) (e .before .before .before .walk .ensures) .found) (c .if1 .taken)
+front : (c : tie.After-walk) → take (c .before .before .args .k) (c .walk .last .1 .1 .0) ≡ addresses (c .before .before .args .k)
+front c = let z = c .before .before .pre in table-front _ z _ (c .walk .ensures) (omega (arith, z .high))
 
 array-share-prefix-table : tie.Need-array-share-prefix-table
 array-share-prefix-table c = search needs
 
 slice-aggregate-find : tie.Need-slice-aggregate-find
-slice-aggregate-find c = sym (ap length (front (c .before .before)) ∙ as-many _ (c .before .before .before .before .before .before .before .pre .high))
+slice-aggregate-find c = let w = c .before .before in sym (ap length (front w) ∙ as-many _ (w .before .before .pre .high))
 
 find-requires : tie.Need-find-requires
 find-requires c κs = search needs
 
-returns-2 : tie.Need-returns-2
-returns-2 c = barred _ _ (stopped-by-8 (c .before .walked .given .1) (c .before .before .before .before .walk .ensures))
-
-returns-3 : tie.Need-returns-3
+returns : tie.Need-returns
 unfolding turboM
-returns-3 c =
-    let e = c .before .before .before in
-    let w = went-well (e .enum-told .given .1) (e .before .before .before .walk .ensures) in
-    single-at (w .found) (c .before .before .if1 .left) (c .find .ensures ∙ ap (position _) (front e))
+returns c = c .find .ensures ∙ ap (position _) (front (c .before .before .before))
 
 pub place-of-spec : {M : Type 1} → statement M
 place-of-spec =
@@ -57,11 +39,7 @@ place-of-spec =
     (tie.spec
     slice-aggregate-walk
     walk-requires
-    enum-known-walked
-    enum-told
-    returns
     array-share-prefix-table
     slice-aggregate-find
     find-requires
-    returns-2
-    returns-3)
+    returns)

@@ -1,4 +1,4 @@
--- `walk_by` sets up, fills and exchanges.
+-- `walk_by` finds the numbers q, sets up, fills and exchanges.
 use borrow.Author.Needs.{needs}
 use mathlib.Core.Path.{refl}
 use native.Mathlib.Omega.{arith}
@@ -8,16 +8,20 @@ use Rattle.wcdma_walk.proofs.Setup.{column-small, exchange-went, fill-i
 use Rattle.wcdma_walk.proofs.walk_by.Statement.{statement}
 use Rattle.wcdma_walk.proofs.walk_by.Tie as tie
 
+find-numbers-requires : tie.Need-find-numbers-requires
+find-numbers-requires c κs = search needs
+
 short-by-requires : tie.Need-short-by-requires
-short-by-requires c κs = omega (arith, prime-big (c .before .args .shape .k), c .before .pre .shape .prime-is)
+short-by-requires c κs = let s = c .before .before .before in omega (arith, prime-big (s .args .shape .k), s .pre .shape .prime-is)
 
 cast-powers : tie.Need-cast-powers
-cast-powers c = omega (arith, prime-small (c .before .before .args .shape .k), c .before .before .pre .shape .prime-is)
+cast-powers c = let s = c .before .before .before .before in omega (arith, prime-small (s .args .shape .k), s .pre .shape .prime-is)
 
 powers-requires : tie.Need-powers-requires
 powers-requires c κs =
-    let a = c .before .before .before .args .shape in
-    let h = c .before .before .before .pre .shape in
+    let s = c .before .before .before .before .before in
+    let a = s .args .shape in
+    let h = s .pre .shape in
     record {
       small = omega (arith, prime-small (a .k), h .prime-is);
       root = shape-root (a .k) (h .prime-is) (h .root-is);
@@ -32,7 +36,7 @@ is-full-requires c κs = search needs
 
 -- behind the set-up: the call
 abbrev start : tie.After-is-full → tie.Start
-start c = c .before .before .before .before .before
+start c = c .before .before .before .before .before .before .before
 
 rem-row : tie.Need-rem-row
 rem-row c = rows-some (start c .pre)
@@ -41,16 +45,17 @@ div-column : tie.Need-div-column
 div-column c = rows-some (start c .pre)
 
 cast-lay-out : tie.Need-cast-lay-out
-cast-lay-out c = omega (arith, column-small (start c .pre))
+cast-lay-out c = omega (arith, column-small (start (c .before) .pre))
 
 lay-out-requires : tie.Need-lay-out-requires
 lay-out-requires c κs =
-    let b = start (c .before .before .before) .pre in
-    record { shape = b .shape; numbers = b .numbers; column = column-small b; base-long = refl; fall-long = refl; at-long = refl }
+    let f = c .before .before .before .before in
+    let b = start f .pre in
+    record { shape = b .shape; numbers = f .before .before .before .before .find-numbers .ensures; column = column-small b; base-long = refl; fall-long = refl; at-long = refl }
 
 -- and behind the rows
 abbrev set-up : tie.After-lay-out → tie.After-is-full
-set-up c = c .before .before .before .before
+set-up c = c .before .before .before .before .before
 
 fill-requires : tie.Need-fill-requires
 fill-requires c κs =
@@ -82,6 +87,7 @@ pub walk-by-spec : {M : Type 1} → statement M
 walk-by-spec =
     tie.close
     (tie.spec
+    find-numbers-requires
     short-by-requires
     cast-powers
     powers-requires
