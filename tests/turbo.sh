@@ -44,8 +44,9 @@ standard() {
     }'
 }
 
-# full rectangles of 5, 10 and 20 rows; K 41 has padding, K 199 the rectangle of K 200, K 520 and 2300 a prime and an order of their own
-for k in 40 41 199 200 520 2300 5040 5114; do
+# full rectangles of 5, 10 and 20 rows; K 41 has padding, K 199 the rectangle of K 200, K 520 and 2300 a prime and an order of their own, and of K 4776
+# the last q is 89, further than of any other p
+for k in 40 41 199 200 520 2300 4776 5040 5114; do
     standard "$k" >"$work/want"
     ./interleaver list 5 1 "$k" | cmp -s - "$work/want"
     expect "list 5 1 $k by the standard" $?

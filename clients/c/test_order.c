@@ -101,6 +101,29 @@ static void upwards(interleaver_set set, interleaver_set shape, uint32_t number,
     every_call(set, shape, INTERLEAVER_PROFILE);
 }
 
+/* every K of profile 5, each of which searches for its numbers q: a call says its own fault, or nothing. K 4,681 to 4,800 search the furthest */
+static void every_search(void) {
+    static uint8_t in[MAX], out[MAX];
+    static float sums[MAX];
+    static uint16_t counts[MAX];
+    interleaver_set set = SET(5, 1, 0, 1);
+    uint32_t address, cell, written, cells;
+    float sum;
+    uint16_t count;
+    for (set.n = 40; set.n <= 5114; set.n++) {
+        cell = 0;
+        EXPECT(interleaver_walk_l(&set, &cell, lent.list, 0, &written, &cells) == INTERLEAVER_DONE && cell == 0 && written == 0 && cells == 0);
+        cell = set.n + 240; /* the padding is 239 cells at the most */
+        EXPECT(interleaver_walk_l(&set, &cell, lent.list, LONG, &written, &cells) == INTERLEAVER_RECORD && cell == set.n + 240);
+        EXPECT(interleaver_address_l(&set, set.n, &address) == INTERLEAVER_POSITION);
+        EXPECT(interleaver_address_m(&set, set.n, &address) == INTERLEAVER_POSITION);
+        EXPECT(interleaver_interleave_bytes(&set, in, set.n - 1, out, set.n) == INTERLEAVER_INPUT);
+        EXPECT(interleaver_deinterleave_bytes(&set, in, set.n, out, set.n - 1) == INTERLEAVER_OUTPUT);
+        EXPECT(interleaver_read_sum(&set, sums, set.n, counts, set.n, set.n - 1, &sum, &count) == INTERLEAVER_DONE && count == 0);
+    }
+    EXPECT(all_bytes(out, MAX, 0));
+}
+
 void order_of_refusals(void) {
     static const interleaver_set shapes[] = {SET(1, 6, 72, 1), SET(2, 2, 96, 1), SET(3, 4, 192, 1), SET(4, 4, 64, 1), SET(5, 1, 40, 1),
         SET(6, 1, 52, 1), SET(6, 4, 208, 2), SET(7, 2, 216, 3), SET(7, 6, 648, 4), LTE(40, 3, 10)};
@@ -127,4 +150,5 @@ void order_of_refusals(void) {
             upwards(set, shape, INTERLEAVER_STREAM, 9);
         }
     }
+    every_search();
 }

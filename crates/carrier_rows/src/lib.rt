@@ -57,16 +57,20 @@ impl RowSpot {
         ensures { λ r. ⌜ ((row col : ℕ) → RowAt d s row col self → RowAt d s row (col + 1) r) ⌝ }
     {
         let base = self.base;
-        let low = self.low + 1;
+        let low = self.low;
         let lift = lift_up(self.lift, d, top);
-        if low == s {
+        if low == s - 1 {
             return RowSpot {
                 base: base + group,
                 low: 0,
                 lift,
             };
         }
-        RowSpot { base, low, lift }
+        RowSpot {
+            base,
+            low: low + 1,
+            lift,
+        }
     }
 
     // From the end of a row to the first column of the next.

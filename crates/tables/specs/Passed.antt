@@ -8,7 +8,7 @@ use lib.ListN.{length}
 use borrow.Author.Tests.{eq-eqb, ne-eqb, eqb-true, not-false}
 use Rattle.laws.specs.declared.Way.the-variants.{Interleaver}
 use Rattle.laws.specs.declared.Leaf.{Leaf}
-use Rattle.laws.specs.Outcome.{done, refused, clear, first, after, clear-back, first-clear, refused-front, answer-keeps, answer-clear}
+use Rattle.laws.specs.Outcome.{refused, clear, first, after, clear-back, first-clear, refused-front, answer-keeps, answer-clear}
 use Rattle.laws.specs.Loop.{by, Within}
 use Rattle.laws.specs.Perm.{Perm}
 use Rattle.laws.specs.Walk.{table-is}

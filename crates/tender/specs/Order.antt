@@ -7,7 +7,7 @@ use mathlib.Core.Path.{_≡_, refl, sym, ap, _∙_}
 use lib.Dec.{eqb}
 use borrow.Author.Tests.{eq-eqb}
 use Rattle.laws.specs.declared.Way.{Way}
-use Rattle.laws.specs.Outcome.{refused, Line, line, Ruling, clear, stopped, first, judged, never, refused-first, stopped-first}
+use Rattle.laws.specs.Outcome.{refused, Line, line, stopped, first, judged, never, refused-first, stopped-first}
 use Rattle.sets.specs.declared.Set.{Set}
 use Rattle.sets.specs.Verdict.{setLines, refusal, verdictOf}
 use Rattle.sets.specs.Refusals.{refusals-apart}

@@ -3,17 +3,17 @@
 -- The search for the rows' numbers q ends by 89.
 use Prim.Native.Nat.{ℕ, suc, _+_, _*_, _-_, _≤_, _<_}
 use mathlib.Core.List.{List·Memᴰ}
+use mathlib.Core.Logic.{_↔_}
 use mathlib.Core.Path.{_≡_, refl}
 use native.Mathlib.Omega.{arith}
 use lib.ListN.{length}
 use Rattle.laws.specs.Perm.{Perm}
 use Rattle.laws.specs.Once.{count}
-use Rattle.laws.specs.Keep.{keep}
 use Rattle.wcdma_shape.specs.Rectangle.{rows, primes, prime, cols, cells}
 use Rattle.wcdma_shape.specs.Shape.{prime-listed}
 use Rattle.wcdma_shape.specs.Orders.{rowAt}
-use Rattle.wcdma_setup.specs.Numbers.{isPrime, qOf}
-use Rattle.wcdma_setup.specs.Primes.{Next, primes-all}
+use Rattle.wcdma_setup.specs.Numbers.{qOf}
+use Rattle.wcdma_setup.specs.Primes.{Prime, Next, primes-are}
 use Rattle.wcdma_setup.specs.Found as numbers
 use Rattle.wcdma.specs.Turbo.{origin, address, addresses, turboL, turboM, padCells}
 use Rattle.wcdma.specs.Full as exchange
@@ -71,6 +71,6 @@ pub q-reached : qOf 238 19 ≡ 89
 q-reached = numbers.q-reached
 
 -- the table has 52 numbers, the primes from 7 to 257, and p of every K is one of them
-pub q-primes : (length primes ≡ 52) × (keep (λ x. x) isPrime 7 251 ≡ primes) × ((k : ℕ) → List·Memᴰ (prime k) primes)
+pub q-primes : (length primes ≡ 52) × ((p : ℕ) → List·Memᴰ p primes ↔ (Prime p × (7 ≤ p) × (p ≤ 257))) × ((k : ℕ) → List·Memᴰ (prime k) primes)
 unfolding primes
-q-primes = (refl, primes-all, prime-listed)
+q-primes = (refl, primes-are, prime-listed)

@@ -7,7 +7,7 @@ use native.Mathlib.Omega.{arith}
 use lib.ListN.{length}
 use borrow.Author.Tests.{le-leb, lt-leb}
 use Rattle.laws.specs.declared.Way.{Way}
-use Rattle.laws.specs.Outcome.{Outcome, done, refused, Line, line, first, Ruling, settle, judged, after, refused-front, kept-front}
+use Rattle.laws.specs.Outcome.{Outcome, done, refused, line, first, Ruling, settle, judged, after, refused-front, kept-front}
 use Rattle.laws.specs.declared.Leaf.{Leaf}
 use Rattle.laws.specs.Walk.{Counts, walkCounts, leafLines, sayLeaf, n-le}
 use Rattle.laws.specs.Leaves.{carry, carry-judged}

@@ -17,7 +17,7 @@ use Rattle.wcdma_shape.specs.Shape.{rows-pos, rows-le, prime-big, prime-small}
 use Rattle.wcdma.specs.Turbo.{entry}
 use Rattle.wcdma.specs.Laid.{plain}
 use Rattle.wcdma_cells.specs.Post.{entryAt, CellIn, Goes}
-use Rattle.wcdma_cells.proofs.Place.{Place, place-address, place-column, exponent, exponent-lt, raised, entry-short}
+use Rattle.wcdma_cells.proofs.Place.{Place, place-address, exponent, exponent-lt, raised, entry-short}
 
 -- the reads of a cell, at row i of column j
 module _ {y : Shape} {i j n : ℕ} {s base fall e out : List ℕ} (z : CellIn y i j n s base fall e out) where
@@ -90,7 +90,3 @@ module _ {k r n i j : ℕ} (p : Place k n i j) (z : i ≡ 0) (er : r ≡ rows k)
 
   pub place-on : Place k (n + r) i (j + 1)
   place-on = record { at = omega (arith, first, er, z, add-mul j 1 (rows k), one-mul (rows k)); row = omega (arith, z, rows-pos k) }
-
-  pub column-fits : n < cells k → n + r ≤ cells k
-  unfolding cells
-  column-fits h = omega (arith, first, er, mul-le-mul-right (rows k) (place-column k p h), suc-mul j (rows k), mul-comm (rows k) (cols k))

@@ -3,7 +3,7 @@ use Prim.Native.Nat.{ℕ, _+_, _*_, _-_, _/_, _%_, _≤_, _<_}
 use mathlib.Core.Bool.{Bool, true, false}
 use mathlib.Core.List.{List}
 use mathlib.Core.Path.{_≡_, refl, ap, sym, _∙_, subst}
-use native.Mathlib.Nat.{le-mul-of-pos-right, add-mul, one-mul, add-mod, mod-lt, sub-zero}
+use native.Mathlib.Nat.{mul-le-mul-right, suc-mul, mul-comm, add-mul, one-mul, add-mod, mod-lt, sub-zero}
 use native.Mathlib.Decide.{ℕ-discrete}
 use native.Mathlib.Omega.{arith}
 use lib.Arith.{digits-div, digits-mod}
@@ -18,7 +18,6 @@ use Rattle.wcdma_shape.specs.Orders.{rowAt}
 use Rattle.wcdma_shape.specs.Shape.{rows-pos, rows-le, prime-big}
 use Rattle.wcdma_powers.specs.Post.{shortBy}
 use Rattle.wcdma.specs.Turbo.{entry, entryWith, origin}
-use Rattle.wcdma.specs.Law.{col-lt}
 use Rattle.wcdma.specs.Laid.{nextCol, Exponents, plain}
 use Rattle.wcdma_cells.specs.Post.{entryAt}
 
@@ -34,9 +33,6 @@ module _ (k : ℕ) where
   pub place-over : {n i j : ℕ} → Place n i j → i + 1 ≡ rows k → Place (n + 1) 0 (j + 1)
   place-over {n} {i} {j} p h = record { at = omega (arith, p .at, add-mul j 1 (rows k), one-mul (rows k)); row = rows-pos k }
 
-  pub column-le : {n i j : ℕ} → Place n i j → j ≤ n
-  column-le {n} {i} {j} p = omega (arith, p .at, le-mul-of-pos-right j (rows-pos k))
-
   -- the address there
   pub place-address : {n i j : ℕ} → Place n i j → plain k n ≡ rowAt k i * cols k + entry (prime k) (root (prime k)) (cols k) (qOf (prime k - 1) i) j
   unfolding plain origin
@@ -48,9 +44,14 @@ module _ (k : ℕ) where
       div-is : n / rows k ≡ j
       div-is = ap (λ (x : ℕ). x / rows k) (p .at) ∙ digits-div j (p .row)
 
-  -- a place within the block has a column of the block
-  pub place-column : {n i j : ℕ} → Place n i j → n < cells k → j < cols k
-  place-column {n} {i} {j} p h = subst (λ (x : ℕ). x < cols k) (ap (λ (x : ℕ). x / rows k) (p .at) ∙ digits-div j (p .row)) (col-lt k n h)
+  -- a place in a column of the block is within the block, and behind the last column it is behind the block
+  pub place-inside : {n i j : ℕ} → Place n i j → j < cols k → n < cells k
+  unfolding cells
+  place-inside {n} {i} {j} p h = omega (arith, p .at, p .row, mul-le-mul-right (rows k) h, suc-mul j (rows k), mul-comm (rows k) (cols k))
+
+  pub place-behind : {n i j : ℕ} → Place n i j → cols k ≤ j → cells k ≤ n
+  unfolding cells
+  place-behind {n} {i} {j} p h = omega (arith, p .at, mul-le-mul-right (rows k) h, mul-comm (rows k) (cols k))
 
   -- the exponent of the row where the walk stands
   pub exponent : {i j : ℕ} {at : List ℕ} → Exponents k i j at → i < rows k → getD at i 0 ≡ j * qOf (prime k - 1) i % (prime k - 1)

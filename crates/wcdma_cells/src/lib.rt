@@ -97,23 +97,20 @@ pub fn fill(
     ensures { λ w. ⌜ WentOf (shape .k) (plainRule (shape .k)) cell (now (out .entry)) (now (out .exit)) w ⌝ }
 {
     let r = shape.r;
-    let total = r * shape.c;
+    let c = shape.c;
     let mut i = row;
     let mut j = column;
-    let mut here = cell;
     let mut n = 0;
-    while here < total {
+    while j < c {
         let room = out.len() - n;
         if (i == 0) & (r <= room) {
             n = one_column(shape, j, s, base, fall, e, out, n);
-            here += r;
             j += 1;
         } else {
             if room == 0 {
                 break;
             }
             n = one_cell(shape, i, j, s, base, fall, e, out, n);
-            here += 1;
             i += 1;
             if i == r {
                 i = 0;
@@ -121,6 +118,7 @@ pub fn fill(
             }
         }
     }
+    let here = j * r + i;
     let seen = here - cell;
     Leaf::Went {
         written: n,

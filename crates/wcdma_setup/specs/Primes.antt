@@ -2,15 +2,18 @@
 use Prim.Native.Nat.{ℕ, zero, suc, _+_, _-_, _%_, _≤_, _<_}
 use mathlib.Core.Bool.{Bool, true, false, cond, not, _&&_, false≢true, true≢false}
 use mathlib.Core.Path.{_≡_, refl, ap, sym, _∙_, subst}
-use mathlib.Core.Logic.{⊎-elim}
+use mathlib.Core.List.{List, List·Memᴰ}
+use mathlib.Core.Logic.{_↔_, ⊎-elim}
 use native.Mathlib.Nat.{eq-or-lt-of-le}
 use native.Mathlib.Omega.{arith}
 use lib.Dec.{eqb, ltb}
 use borrow.Author.Tests.{ltb-true, lt-ltb, ltb-false, eqb-true, eqb-false, eq-eqb, ne-eqb}
 use Rattle.laws.specs.Euclid.{gcd}
-use Rattle.laws.specs.Members.{both}
+use Rattle.laws.specs.Members.{both, every, at-each}
 use Rattle.laws.specs.Keep.{keep}
+use Rattle.laws.specs.Cut.{keep-has}
 use Rattle.wcdma_shape.specs.Rectangle.{primes}
+use Rattle.wcdma_shape.specs.Shape.{listed-big, listed-small}
 use Rattle.wcdma_setup.specs.Numbers.{noDivisor, isPrime, passes, nextIn, above, nextQ}
 
 -- q is above 1 and has no divisor from 2 to q - 1
@@ -47,9 +50,19 @@ prime-is q p =
     rw (lt-ltb 1 q o) (divides-none q 2 (q - 2) (λ x h l. p .undivided x h (omega arith)))
 
 -- the table is all the primes from 7 to 257
-pub primes-all : keep (λ x. x) isPrime 7 251 ≡ primes
+primes-all : keep (λ x. x) isPrime 7 251 ≡ primes
 unfolding keep isPrime noDivisor primes
 primes-all = refl
+
+all-prime : every isPrime primes ≡ true
+unfolding isPrime noDivisor primes
+all-prime = refl
+
+pub primes-are : (p : ℕ) → List·Memᴰ p primes ↔ (Prime p × (7 ≤ p) × (p ≤ 257))
+primes-are p = (
+  λ m. let l = listed-small m in (is-prime p (at-each isPrime primes all-prime m), listed-big m, omega arith),
+  λ h. subst (λ (l : List ℕ). List·Memᴰ p l) primes-all (keep-has (λ x. x) isPrime 7 251 p (h .1) (omega (arith, h .2)) (prime-is p (h .0))),
+)
 
 -- q is the least number above 6 and above last that is a prime with no common divisor with m
 pub record Next (m last q : ℕ) : Type 0 where

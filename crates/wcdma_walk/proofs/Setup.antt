@@ -18,7 +18,6 @@ use Rattle.wcdma_shape.specs.Powers.{power, root}
 use Rattle.wcdma_shape.specs.Shape.{rows-pos, cols-high, prime-small}
 use Rattle.wcdma_shape.specs.Roots.{Root, prime-root}
 use Rattle.wcdma_shape.specs.Halves.{second-half}
-use Rattle.wcdma_shape.specs.Post.{ShapeOf}
 use Rattle.wcdma_powers.specs.Post.{shortBy}
 use Rattle.wcdma.specs.Turbo.{addresses, turboL, turboRule}
 use Rattle.wcdma.specs.Law.{as-many, turbo-lawful}

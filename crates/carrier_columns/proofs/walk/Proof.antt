@@ -1,5 +1,4 @@
 -- `carrier_columns::walk` is the walk for M from any cell: 9 by its test, and else what `write` wrote.
-use mathlib.Core.Path.{refl}
 use borrow.Author.Needs.{needs}
 use Rattle.laws.specs.Leaves.{leaf-past, ran-leaf}
 use Rattle.carrier.specs.Once.{carrier-once}

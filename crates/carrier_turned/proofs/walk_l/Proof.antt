@@ -1,5 +1,4 @@
 -- `carrier_turned::walk_l` is the walk for L from any cell: 9 by its test, and else what `write_l` wrote.
-use mathlib.Core.Path.{refl}
 use native.Mathlib.Omega.{arith}
 use borrow.Author.Needs.{needs}
 use Rattle.laws.specs.Lanes.{ran-same}

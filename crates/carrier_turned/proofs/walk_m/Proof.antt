@@ -1,5 +1,4 @@
 -- `carrier_turned::walk_m` is the walk for M from any cell: 9 by its test, and else what `write_m` wrote.
-use mathlib.Core.Path.{refl}
 use native.Mathlib.Omega.{arith}
 use borrow.Author.Needs.{needs}
 use Rattle.laws.specs.Lanes.{ran-same}

@@ -1,5 +1,4 @@
 -- `combine::add_by` meets its contract: the table holds L, and then the refusal of the values, or the block added by it.
-use Rattle.positions.specs.Heard.{Reception, Kept, reception, kept}
 use Rattle.tables.specs.Passed.{its-set}
 use Rattle.combine.specs.Passed.{fits-table, values-refused, sums-refused, counts-refused, ready, values-done, sums-done, counts-done}
 use borrow.Author.Needs.{needs}

@@ -1,5 +1,4 @@
 -- `quadratic_walk::walk` is the walk for L from any cell: 9 by its test, and else what `write` wrote.
-use mathlib.Core.Path.{refl}
 use Rattle.laws.specs.Leaves.{leaf-past, ran-leaf}
 use Rattle.quadratic.specs.Law.{address-below}
 use borrow.Author.Needs.{needs}

@@ -3,7 +3,7 @@
 use Prim.Native.Nat.{_%_, _*_, _+_, _-_, _<_, _≤_, suc}
 use borrow.Author.Needs.{needs}
 use mathlib.Core.Bool.{true}
-use mathlib.Core.Path.{_∙_, _≡_, refl, sym}
+use mathlib.Core.Path.{_∙_, _≡_, sym}
 use native.Mathlib.Nat.{mul-le-mul}
 use native.Mathlib.Omega.{arith}
 use Rattle.wcdma_setup.proofs.Search.{below-89, candidate-low, candidate-odd, next-composite, next-found, next-shared, odd-end, odd-found, odd-not, odd-prime, oddTest, search-on, small-root}
