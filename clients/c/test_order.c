@@ -101,7 +101,8 @@ static void upwards(interleaver_set set, interleaver_set shape, uint32_t number,
     every_call(set, shape, INTERLEAVER_PROFILE);
 }
 
-/* every K of profile 5, each of which searches for its numbers q: a call says its own fault, or nothing. K 4,681 to 4,800 search the furthest */
+/* every K of profile 5: a walk with no room sets up, searching for its numbers q, and is done; every other call says its own fault, or reads. For K
+   4,681 to 4,800 the search goes furthest */
 static void every_search(void) {
     static uint8_t in[MAX], out[MAX];
     static float sums[MAX];
@@ -110,6 +111,7 @@ static void every_search(void) {
     uint32_t address, cell, written, cells;
     float sum;
     uint16_t count;
+    memset(in, 1, sizeof in);
     for (set.n = 40; set.n <= 5114; set.n++) {
         cell = 0;
         EXPECT(interleaver_walk_l(&set, &cell, lent.list, 0, &written, &cells) == INTERLEAVER_DONE && cell == 0 && written == 0 && cells == 0);

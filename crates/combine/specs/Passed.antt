@@ -68,17 +68,14 @@ module _ (s : Set) (b : Reception) (h : Kept) where
 
   -- the block is not taken: so is the call refused, and all is as it was
   module _ {x : Refusal} (e : refused x ≡ movedOf s (s .n) inputOf outputOf) where
-    refusing : movedOf s (s .n) inputOf outputOf ≡ refused x
-    refusing = sym e
-
     pub block-refused : refused x ≡ addedOf s b h
     unfolding addedOf
     block-refused =
-        sym (ap (λ (ls : List Line). judged (refusal s) ls tt) lines-are ∙ refused-front (refusal s) tt (blockLines s (s .n) inputOf outputOf) (valueLines (L s) (s .n) b h) refusing tt)
+        sym (ap (λ (ls : List Line). judged (refusal s) ls tt) lines-are ∙ refused-front (refusal s) tt (blockLines s (s .n) inputOf outputOf) (valueLines (L s) (s .n) b h) (sym e) tt)
 
     kept-then : {B : Type 0} (new old : B) → old ≡ after (addLines s b h) new old
     kept-then new old =
-        sym (ap (λ (ls : List Line). after ls new old) lines-are ∙ kept-front (refusal s) tt (blockLines s (s .n) inputOf outputOf) (valueLines (L s) (s .n) b h) refusing new old)
+        sym (ap (λ (ls : List Line). after ls new old) lines-are ∙ kept-front (refusal s) tt (blockLines s (s .n) inputOf outputOf) (valueLines (L s) (s .n) b h) (sym e) new old)
 
     pub sums-kept : h .sums ≡ sumsOf s b h
     unfolding sumsOf

@@ -7,11 +7,11 @@ use mathlib.Core.Path.{_≡_, sym, ap, _∙_}
 use lib.Dec.{leb}
 use lib.ListN.{length}
 use borrow.Author.Tests.{eq-eqb, ne-eqb, le-leb, lt-leb}
-use Rattle.laws.specs.Outcome.{done, refused, Line, line, first, refused-front}
+use Rattle.laws.specs.Outcome.{done, refused, Line, line, first}
 use Rattle.sets.specs.declared.Set.{Set}
 use Rattle.sets.specs.declared.Refusal.{Refusal}
-use Rattle.sets.specs.Verdict.{setLines, refusal, verdictOf}
-use Rattle.sets.specs.Admits.{Accepted, accepted-front}
+use Rattle.sets.specs.Verdict.{refusal, verdictOf}
+use Rattle.sets.specs.Admits.{Accepted, accepted-front, set-refused}
 use Rattle.positions.specs.Heard.{Kept, held}
 use Rattle.combine.specs.Answer.{toldOf, bothLong, readLines, readOf}
 use Rattle.adders.specs.Lengths.{oneOff, off-both}
@@ -21,8 +21,8 @@ module _ (s : Set) (h : Kept) (k : ℕ) where
   behind = line 4 (leb (s .n) k) ∷ line 6 (not (bothLong (s .n) (h .sums) (h .counts))) ∷ []
 
   pub set-refuses : {x : Refusal} → verdictOf s ≡ refused x → refused x ≡ readOf s h k
-  unfolding readOf readLines verdictOf
-  set-refuses e = sym (refused-front (refusal s) tt (setLines s) behind e (toldOf (held h k)))
+  unfolding readOf readLines
+  set-refuses e = set-refused s behind (toldOf (held h k)) e
 
   module _ (a : Accepted s) where
     front : first (readLines s h k) ≡ first behind

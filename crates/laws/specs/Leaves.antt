@@ -12,8 +12,9 @@ use Rattle.laws.specs.Outcome.{Outcome, done, refused, Line, first, Ruli
 use Rattle.laws.specs.Lanes.{Ran}
 use Rattle.laws.specs.Cut.{steps-are, steps-le}
 use Rattle.laws.specs.Once.{inside}
+use Rattle.laws.specs.Loop.{by}
 use Rattle.laws.specs.Bare.{ran-written, ran-cells, ran-slice}
-use Rattle.laws.specs.Walk.{Rule, bareRule, walkList, walkCells, walkSlice, Counts, counts, walkCounts, leafLines, sayLeaf, LeafOf, Lawful}
+use Rattle.laws.specs.Walk.{Rule, bareRule, walkList, walkCells, walkSlice, Counts, counts, walkCounts, leafLines, sayLeaf, LeafOf, Lawful, table-is}
 
 -- a ruling, and what it makes of an answer and of a slice
 module _ {A : Type 0} (ls : List Line) (a : A) where
@@ -49,12 +50,12 @@ unfolding walkList walkCells walkSlice
 ran-leaf below h r = leaf-went h (ran-written below r) (ran-cells below r) (ran-slice below r)
 
 -- what an answer tells: nothing was in the way, and the counts
-pub record WentWell (n : ℕ) (r : Rule) (cell : ℕ) (old : List ℕ) (a b : ℕ) : Type 0 where
+record WentWell (n : ℕ) (r : Rule) (cell : ℕ) (old : List ℕ) (a b : ℕ) : Type 0 where
   pub within : cell ≤ r .total
   pub written : a ≡ length (walkList n r cell (length old))
   pub cells : b ≡ walkCells n r cell (length old)
 
-pub went-well : {n : ℕ} {r : Rule} {cell : ℕ} {old new : List ℕ} {leaf : Leaf} {a b : ℕ} → leaf ≡ Went a b → LeafOf n r cell old new leaf
+went-well : {n : ℕ} {r : Rule} {cell : ℕ} {old new : List ℕ} {leaf : Leaf} {a b : ℕ} → leaf ≡ Went a b → LeafOf n r cell old new leaf
     → WentWell n r cell old a b
 went-well {n} {r} {cell} {old} {new} {leaf} {a} {b} e o =
     let q = done-clear (λ k. k) (walkCounts n r cell (length old)) (leafLines r cell) (counts a b) (sym (o .answer) ∙ ap sayLeaf e) in
@@ -64,9 +65,14 @@ went-well {n} {r} {cell} {old} {new} {leaf} {a} {b} e o =
       cells = sym (ap (λ (c : Counts). c .cells) (q .1));
     }
 
--- from cell 0 nothing is in the way, whatever the answer: the slice is that of the walk
-pub begun : {n : ℕ} {r : Rule} {old new : List ℕ} {leaf : Leaf} → LeafOf n r 0 old new leaf → new ≡ walkSlice n r 0 old
-begun {n} {r} {old} o = o .slice ∙ rw (le-ltb (r .total) 0 (omega arith))
+-- from cell 0 nothing is in the way, whatever the answer: the slice is that of the walk ..
+pub from-first : {n : ℕ} {r : Rule} {old new : List ℕ} {leaf : Leaf} → LeafOf n r 0 old new leaf → new ≡ walkSlice n r 0 old
+from-first {n} {r} {old} o = o .slice ∙ rw (le-ltb (r .total) 0 (omega arith))
+
+-- .. and holds L, as far as it goes
+pub holds-l : {n : ℕ} {r : Rule} {old new : List ℕ} {leaf : Leaf} → Lawful n r → LeafOf n r 0 old new leaf
+    → (t : ℕ) → t < length old → t < n → by new t ≡ r .l t
+holds-l {n} {r} {old} h o t room l = ap (λ (xs : List ℕ). by xs t) (from-first o) ∙ table-is h old t room l
 
 -- the numbers of an answer fit 16 bits
 abbrev pub Fits : ℕ → Leaf → Type 0

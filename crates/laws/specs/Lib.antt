@@ -1,4 +1,5 @@
 pub mod Outcome
+pub mod Unsaid
 pub mod Lent
 pub mod Digits
 pub mod Sized

@@ -8,10 +8,11 @@ use mathlib.Core.List.{List, _++_, List·Memᴰ, Memᴰ·of-map}
 use Prim.Native.Nat.{ℕ, _≤_}
 use lib.Dec.{leb}
 use borrow.Author.Tests.{leb-true, not-false}
-use Rattle.laws.specs.Outcome.{done, Line, clear, first, Clear, done-clear, clear-done, done-front, first-clear, clear-front}
+use Rattle.laws.specs.Outcome.{done, refused, Line, clear, first, judged, refused-front, Clear, done-clear, clear-done, done-front, first-clear, clear-front}
 use Rattle.laws.specs.Told.{NoneTrue, told-clear, clear-join, clear-parts}
 use Rattle.laws.specs.Members.{both, at-each, by-member, in-chained, of-chained}
 use Rattle.sets.specs.declared.Set.{Set}
+use Rattle.sets.specs.declared.Refusal.{Refusal}
 use Rattle.sizes.specs.declared.Size.{Size}
 use Rattle.profiles.specs.Entry.{some, some-of, Entry}
 use Rattle.profiles.specs.Profiles.{profiles, lastProfile, entryBy, bitsIn, sizeBy}
@@ -33,6 +34,11 @@ Accepted s = verdictOf s ≡ done tt
 pub accepted-front : (s : Set) (more : List Line) → Accepted s → first (setLines s ++ more) ≡ first more
 unfolding verdictOf
 accepted-front s more e = done-front (refusal s) tt tt (setLines s) more e
+
+-- .. where it is refused, so is the call ..
+pub set-refused : (s : Set) (more : List Line) {x : Refusal} {A : Type 0} (a : A) → verdictOf s ≡ refused x → refused x ≡ judged (refusal s) (setLines s ++ more) a
+unfolding verdictOf
+set-refused s more a e = sym (refused-front (refusal s) tt (setLines s) more e a)
 
 -- .. and where no line of a call applies, its set is accepted
 pub front-accepted : (s : Set) (more : List Line) → first (setLines s ++ more) ≡ clear → Accepted s

@@ -1,22 +1,21 @@
 -- What stands behind each return of judging a block, behind a block that was judged, and behind a table that was filled. Over a block of any length.
 use Prim.Native.Nat.{ℕ, _≤_, _<_}
 use mathlib.Core.List.{List}
-use mathlib.Core.Path.{_≡_, refl, sym, ap, _∙_}
+use mathlib.Core.Path.{_≡_, refl, sym, ap}
 use native.Mathlib.Omega.{arith}
 use lib.Dec.{eqb}
 use lib.ListN.{length}
 use borrow.Author.Tests.{eq-eqb, ne-eqb, eqb-true, not-false}
 use Rattle.laws.specs.declared.Way.the-variants.{Interleaver}
 use Rattle.laws.specs.declared.Leaf.{Leaf}
-use Rattle.laws.specs.Outcome.{refused, clear, first, after, clear-back, first-clear, refused-front, answer-keeps, answer-clear}
+use Rattle.laws.specs.Outcome.{refused, clear, first, after, clear-back, first-clear, answer-keeps, answer-clear}
 use Rattle.laws.specs.Loop.{by, Within}
 use Rattle.laws.specs.Perm.{Perm}
-use Rattle.laws.specs.Walk.{table-is}
-use Rattle.laws.specs.Leaves.{begun}
+use Rattle.laws.specs.Leaves.{holds-l}
 use Rattle.sets.specs.declared.Set.{Set}
 use Rattle.sets.specs.declared.Refusal.{Refusal}
 use Rattle.sets.specs.Verdict.{setLines, refusal, verdictOf}
-use Rattle.sets.specs.Admits.{Accepted, accepted-front, front-accepted}
+use Rattle.sets.specs.Admits.{Accepted, accepted-front, set-refused, front-accepted}
 use Rattle.families.specs.Rules.{L, M, lawful}
 use Rattle.families.specs.Taken.{WalkLeaf, leaf-had}
 use Rattle.tables.specs.Answer.{lengthLines, blockLines, movedOf, Judged}
@@ -33,22 +32,21 @@ pub record Tabled (s : Set) (table : List ℕ) : Type 0 where
   pub within : Within table (s .n) (s .n)
 
 -- judging, return by return. The set is refused: so is the block
-module _ (s : Set) (total i o : ℕ) where
-  pub set-refused : {x : Refusal} → verdictOf s ≡ refused x → refused x ≡ movedOf s total i o
-  unfolding blockLines verdictOf
-  set-refused e = sym (refused-front (refusal s) tt (setLines s) (lengthLines total i o) e tt)
+pub block-refused : (s : Set) (total i o : ℕ) {x : Refusal} → verdictOf s ≡ refused x → refused x ≡ movedOf s total i o
+unfolding blockLines
+block-refused s total i o e = set-refused s (lengthLines total i o) tt e
 
-  -- it is accepted: the two lengths decide
-  module _ (a : Accepted s) where
-    front : first (blockLines s total i o) ≡ first (lengthLines total i o)
-    unfolding blockLines
-    front = accepted-front s (lengthLines total i o) a
+-- it is accepted: the two lengths decide
+module _ (s : Set) (total i o : ℕ) (a : Accepted s) where
+  front : first (blockLines s total i o) ≡ first (lengthLines total i o)
+  unfolding blockLines
+  front = accepted-front s (lengthLines total i o) a
 
-    pub is-five : {x : Refusal} → (i ≡ total → ⊥) → x ≡ refusal s 5 → refused x ≡ movedOf s total i o
-    is-five n q = rw (front, ne-eqb i total n) (ap refused q)
+  pub is-five : {x : Refusal} → (i ≡ total → ⊥) → x ≡ refusal s 5 → refused x ≡ movedOf s total i o
+  is-five n q = rw (front, ne-eqb i total n) (ap refused q)
 
-    pub is-six : {x : Refusal} → i ≡ total → (o ≡ total → ⊥) → x ≡ refusal s 6 → refused x ≡ movedOf s total i o
-    is-six e n q = rw (front, eq-eqb i total e, ne-eqb o total n) (ap refused q)
+  pub is-six : {x : Refusal} → i ≡ total → (o ≡ total → ⊥) → x ≡ refusal s 6 → refused x ≡ movedOf s total i o
+  is-six e n q = rw (front, eq-eqb i total e, ne-eqb o total n) (ap refused q)
 
 -- a block of the lengths that it must have, of an accepted set, is moved
 pub block-served : (s : Set) (total : ℕ) {i o : ℕ} → Accepted s → i ≡ total → o ≡ total → Judged s total i o
@@ -72,6 +70,10 @@ module _ (s : Set) (total i o : ℕ) (e : Judged s total i o) where
       let c = first-clear (lengthLines total i o) (clear-back (setLines s) (lengthLines total i o) all-clear) in
       (eqb-true i total (not-false (eqb i total) (c .0)), eqb-true o total (not-false (eqb o total) (c .1 .0)))
 
+  -- it has room in the largest table
+  pub its-room : {r : ℕ} → SizeOf s r → s .n ≤ 6144
+  its-room z = z .most its-set
+
   -- and a buffer after the call is the new one
   pub its-output : {B : Type 0} (new old : B) → after (blockLines s total i o) new old ≡ new
   its-output new old = rw all-clear
@@ -87,4 +89,4 @@ pub tabled-by : (s : Set) (old : List ℕ) {table : List ℕ} {leaf : Leaf} → 
 tabled-by s old {table} a room w same = record { room = omega arith; holds = holds; within = λ k l. rw (holds k l) (lawful s a .perm .l-below k l) }
   where
     holds : (k : ℕ) → k < s .n → by table k ≡ L s k
-    holds k l = ap (λ (x : List ℕ). by x k) (begun (leaf-had Interleaver s refl w)) ∙ table-is (lawful s a) old k (omega arith) l
+    holds k l = holds-l (lawful s a) (leaf-had Interleaver s refl w) k (omega arith) l

@@ -9,7 +9,7 @@ use native.Mathlib.Omega.{arith}
 use lib.ListN.{length}
 use Rattle.laws.specs.Perm.{Perm}
 use Rattle.laws.specs.Once.{count}
-use Rattle.wcdma_shape.specs.Rectangle.{rows, primes, prime, cols, cells}
+use Rattle.wcdma_shape.specs.Rectangle.{rows, primes, firstPrime, prime, cols, cells}
 use Rattle.wcdma_shape.specs.Shape.{prime-listed}
 use Rattle.wcdma_shape.specs.Orders.{rowAt}
 use Rattle.wcdma_setup.specs.Numbers.{qOf}
@@ -62,13 +62,16 @@ pub exchange-sizes : length fullSizes ≡ 59
 exchange-sizes = touched.sizes-touched
 
 -- "For all 52 primes the search ends by 89": for each p of the table and each of the 19 rows behind row 0, q(i + 1) is at most 89, and it is the least
--- prime above 6 and above q(i) that has no common divisor with p - 1, of all there are (`Next`). q(0) is 1
-pub q-ends : (p : ℕ) → List·Memᴰ p primes → (i : ℕ) → i < 19 → Next (p - 1) (qOf (p - 1) i) (qOf (p - 1) (suc i)) × (qOf (p - 1) (suc i) ≤ 89)
-q-ends p m i l = numbers.q-ends m i (omega arith)
+-- prime above 6 and above q(i) that has no common divisor with p - 1, of all there are (`Next`); and q(0) is 1
+pub q-ends : (p : ℕ) → List·Memᴰ p primes
+    → (qOf (p - 1) 0 ≡ 1) × ((i : ℕ) → i < 19 → Next (p - 1) (qOf (p - 1) i) (qOf (p - 1) (suc i)) × (qOf (p - 1) (suc i) ≤ 89))
+unfolding qOf
+q-ends p m = (refl, λ i l. numbers.q-ends m i (omega arith))
 
--- and 89 is reached, for p = 239 in row 19
-pub q-reached : qOf 238 19 ≡ 89
-q-reached = numbers.q-reached
+-- and 89 is reached: at K = 4,776, where p is 239, in the last of its 20 rows
+pub q-reached : (prime 4776 ≡ 239) × (rows 4776 ≡ 20) × (qOf 238 19 ≡ 89)
+unfolding rows prime firstPrime primes
+q-reached = (refl, refl, numbers.q-reached)
 
 -- the table has 52 numbers, the primes from 7 to 257, and p of every K is one of them
 pub q-primes : (length primes ≡ 52) × ((p : ℕ) → List·Memᴰ p primes ↔ (Prime p × (7 ≤ p) × (p ≤ 257))) × ((k : ℕ) → List·Memᴰ (prime k) primes)

@@ -21,8 +21,8 @@ use Rattle.walks.specs.declared.Found.{Found}
 use Rattle.walks.specs.declared.Found.the-variants as found
 use Rattle.families.specs.Rules.{ruleIn, barred}
 
--- a walk: 1 also where the way is M's and M is not walked, and that stands where 1 does; then 1, 2, 3, 16, 11, 10, and what its rule may be refused
--- for, 9, a cell past the total
+-- a walk: 1 also where the way is M's and M is not walked, and that stands where 1 does; then 1, 2, 3, 16, 11, 10, and 9, a cell
+-- past the total
 unfoldable pub walkLines : Way → Walk → List Line
 walkLines way w = line 1 (barred way (familyOf (w .set))) ∷ (setLines (w .set) ++ leafLines (ruleIn way (w .set)) (w .cell))
 

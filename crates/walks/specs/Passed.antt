@@ -7,7 +7,7 @@ use native.Mathlib.Omega.{arith}
 use lib.ListN.{length}
 use borrow.Author.Tests.{le-leb, lt-leb}
 use Rattle.laws.specs.declared.Way.{Way}
-use Rattle.laws.specs.Outcome.{Outcome, done, refused, line, first, Ruling, settle, judged, after, refused-front, kept-front}
+use Rattle.laws.specs.Outcome.{Outcome, done, refused, line, first, Ruling, settle, judged, after, kept-front}
 use Rattle.laws.specs.declared.Leaf.{Leaf}
 use Rattle.laws.specs.Walk.{Counts, walkCounts, leafLines, sayLeaf, n-le}
 use Rattle.laws.specs.Leaves.{carry, carry-judged}
@@ -17,20 +17,20 @@ use Rattle.sets.specs.Set.{familyOf}
 use Rattle.sets.specs.Verdict.{setLines, refusal, verdictOf}
 use Rattle.walks.specs.declared.Walk.{Walk}
 use Rattle.families.specs.Rules.{ruleIn, barred, lawful-way}
-use Rattle.sets.specs.Admits.{Accepted, accepted-front}
+use Rattle.sets.specs.Admits.{Accepted, accepted-front, set-refused}
 use Rattle.families.specs.Taken.{wayLines, WalkLeaf}
 use Rattle.walks.specs.Answer.{walkLines, oneLines, Values, values, walkNext, walkSlice, walkValues, walkedOf, sliceOf, foundOf}
 
 -- a set that is refused is refused by its walk, with 1 where that is not had, and no slice changes
 module _ (way : Way) (w : Walk) {x : Refusal} (e : verdictOf (w .set) ≡ refused x) where
   pub refused-answer : {y : Refusal} (room : ℕ) → y ≡ cond (barred way (familyOf (w .set))) (refusal (w .set) 1) x → refused y ≡ walkedOf way w room
-  unfolding walkedOf walkLines verdictOf
+  unfolding walkedOf walkLines
   refused-answer {y} room q = go (barred way (familyOf (w .set))) refl q
     where
       go : (b : Bool) → barred way (familyOf (w .set)) ≡ b → y ≡ cond b (refusal (w .set) 1) x
           → refused y ≡ judged (refusal (w .set)) (line 1 b ∷ (setLines (w .set) ++ leafLines (ruleIn way (w .set)) (w .cell))) (walkValues way w room)
       go true o q = ap refused q
-      go false o q = ap refused q ∙ sym (refused-front (refusal (w .set)) tt (setLines (w .set)) _ e _)
+      go false o q = ap refused q ∙ set-refused (w .set) _ _ e
 
   pub refused-slice : (old : List ℕ) → old ≡ sliceOf way w old
   unfolding sliceOf walkLines verdictOf
@@ -66,8 +66,8 @@ module _ (way : Way) (w : Walk) (e : Accepted (w .set)) {old new : List ℕ} {le
 -- one address: a refused set, a position that is N or more, or the address
 module _ (way : Way) (s : Set) (x : ℕ) where
   pub one-refused : {y : Refusal} → verdictOf s ≡ refused y → refused y ≡ foundOf way s x
-  unfolding foundOf oneLines verdictOf
-  one-refused e = sym (refused-front (refusal s) tt (setLines s) _ e _)
+  unfolding foundOf oneLines
+  one-refused e = set-refused s _ (ruleIn way s .l x) e
 
   module _ (e : Accepted s) where
     pub one-past : {y : Refusal} → s .n ≤ x → y ≡ refusal s 4 → refused y ≡ foundOf way s x
@@ -78,6 +78,6 @@ module _ (way : Way) (s : Set) (x : ℕ) where
     unfolding foundOf oneLines
     one-found h q = rw (accepted-front s _ e, lt-leb (s .n) x h) (ap done q)
 
-    -- which fits 32 bits
+    -- which fits 16 bits
     pub one-small : x < s .n → ruleIn way s .l x < 65536
     one-small h = let w = lawful-way way s e in omega (arith, w .perm .l-below x h, n-le w, w .small)

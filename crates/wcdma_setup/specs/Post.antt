@@ -20,6 +20,7 @@ pub record NextOf (m last r : ℕ) : Type 0 where
   pub odd : r % 2 ≡ 1
   pub high : 5 ≤ r
 
+-- what finding the numbers is given: a shape, and room for twenty
 pub record NumbersIn (z : Shape) (q : List ℕ) : Type 0 where
   pub shape : ShapeOf z
   pub long : length q ≡ 20

@@ -10,8 +10,8 @@ use lib.ListN.{getD, length, take, drop}
 use lib.Seq.{take-at}
 use Rattle.laws.specs.declared.Leaf.{Leaf}
 use Rattle.laws.specs.declared.Leaf.the-variants.{Went}
-use Rattle.laws.specs.Walk.{walkSlice, LeafOf, table-is}
-use Rattle.laws.specs.Leaves.{leaf-went, begun}
+use Rattle.laws.specs.Walk.{walkSlice, LeafOf}
+use Rattle.laws.specs.Leaves.{leaf-went, from-first}
 use Rattle.wcdma_shape.specs.declared.Shape.{Shape}
 use Rattle.wcdma_shape.specs.Rectangle.{Size, rows, prime, cols, cells}
 use Rattle.wcdma_shape.specs.Powers.{power, root}
@@ -19,8 +19,8 @@ use Rattle.wcdma_shape.specs.Shape.{rows-pos, cols-high, prime-small}
 use Rattle.wcdma_shape.specs.Roots.{Root, prime-root}
 use Rattle.wcdma_shape.specs.Halves.{second-half}
 use Rattle.wcdma_powers.specs.Post.{shortBy}
-use Rattle.wcdma.specs.Turbo.{addresses, turboL, turboRule}
-use Rattle.wcdma.specs.Law.{as-many, turbo-lawful}
+use Rattle.wcdma.specs.Turbo.{addresses, turboRule}
+use Rattle.wcdma.specs.Law.{as-many}
 use Rattle.wcdma.specs.Walks.{walk-whole}
 use Rattle.wcdma.specs.Laid.{Rows, Exponents, plainRule}
 use Rattle.wcdma_cells.specs.Post.{FillIn, WentOf}
@@ -81,13 +81,10 @@ went-says k cell old {y} {new} {r} e h w =
     let z : WentOf k (turboRule k) cell old new r = rw e at w in
     subst (λ (x : Leaf). LeafOf k (turboRule k) cell old new x) (sym (z .answer)) (leaf-went h refl refl (z .slice))
 
--- a table that a walk from cell 0 filled is L, as far as it goes
-module _ (k : ℕ) (size : Size k) (old : List ℕ) {table : List ℕ} {leaf : Leaf} (w : LeafOf k (turboRule k) 0 old table leaf) where
-  pub table-at : (i : ℕ) → i < length old → i < k → getD table i 0 ≡ turboL k i
-  table-at i h l = ap (λ (l : List ℕ). getD l i 0) (begun w) ∙ table-is (turbo-lawful k (size .high)) old i h l
-
-  pub table-front : k ≤ length old → take k table ≡ addresses k
-  unfolding walkSlice
-  table-front h =
-      ap (take k) (begun w ∙ ap (λ (l : List ℕ). l ++ drop (length l) old) (walk-whole k size (length old) h))
-      ∙ take-at (addresses k) (drop (length (addresses k)) old) k (as-many k (size .high))
+-- the front of a table that a walk from cell 0 filled is the list
+pub table-front : (k : ℕ) → Size k → (old : List ℕ) {table : List ℕ} {leaf : Leaf} → LeafOf k (turboRule k) 0 old table leaf → k ≤ length old
+    → take k table ≡ addresses k
+unfolding walkSlice
+table-front k size old w h =
+    ap (take k) (from-first w ∙ ap (λ (l : List ℕ). l ++ drop (length l) old) (walk-whole k size (length old) h))
+    ∙ take-at (addresses k) (drop (length (addresses k)) old) k (as-many k (size .high))

@@ -2,7 +2,7 @@
 use mathlib.Core.Path.{sym, ap, _∙_}
 use Rattle.sets.specs.Verdict.{sayVerdict}
 use Rattle.sets.specs.Admits.{Accepted}
-use Rattle.tables.specs.Passed.{set-refused, is-five, is-six, block-served}
+use Rattle.tables.specs.Passed.{block-refused, is-five, is-six, block-served}
 use borrow.Author.Needs.{needs}
 use Rattle.tables.proofs.judge.Statement.{statement}
 use Rattle.tables.proofs.judge.Tie as tie
@@ -35,7 +35,7 @@ returns-2 c =
     is-six _ _ _ _ (accepted (i .before)) (i .if1 .left) (c .before .if2 .taken) (c .refusal-of2 .ensures)
 
 returns-3 : tie.Need-returns-3
-returns-3 c = set-refused _ _ _ _ (sym (c .before .before .before .test .ensures) ∙ ap sayVerdict (c .before .x .given .1))
+returns-3 c = block-refused _ _ _ _ (sym (c .before .before .before .test .ensures) ∙ ap sayVerdict (c .before .x .given .1))
 
 returns-4 : tie.Need-returns-4
 returns-4 c = let i = c .before in sym (block-served _ _ (accepted (i .before)) (i .if1 .left) (c .if2 .left))

@@ -5,7 +5,8 @@ use lib.ListN.{List·getD-append}
 use lib.Seq.{length-take-le}
 use mathlib.Core.Path.{_∙_, sym}
 use native.Mathlib.Omega.{arith}
-use Rattle.wcdma_walk.proofs.Setup.{table-at}
+use Rattle.laws.specs.Leaves.{holds-l}
+use Rattle.wcdma.specs.Law.{turbo-lawful}
 use Rattle.wcdma_walk.proofs.address_of.Statement.{statement}
 use Rattle.wcdma_walk.proofs.address_of.Tie as tie
 
@@ -38,7 +39,7 @@ returns c =
     let long = slice-aggregate-walk (w .before) in
     c .wide16 .ensures
     ∙ List·getD-append (w .walk .last .1 .1 .0) _ 0 t (omega (arith, w .walk .kept .1 .1 .0, long))
-    ∙ table-at (s .args .k) (s .pre .0) _ (w .walk .ensures) t (omega (arith, long)) (s .pre .1)
+    ∙ holds-l (turbo-lawful (s .args .k) (s .pre .0 .high)) (w .walk .ensures) t (omega (arith, long)) (s .pre .1)
 
 pub address-of-spec : {M : Type 1} → statement M
 address-of-spec =

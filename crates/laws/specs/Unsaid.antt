@@ -1,0 +1,29 @@
+-- The numbers of lines in their order, and that a call says no other. Rests on Outcome.
+use Prim.Native.Nat.{ℕ}
+use mathlib.Core.Bool.{Bool, true, false, cond, _||_, true≢false}
+use mathlib.Core.List.{List, [], _∷_, map}
+use mathlib.Core.Path.{_≡_, refl, sym, _∙_}
+use lib.Dec.{eqb}
+use borrow.Author.Tests.{eq-eqb}
+use Rattle.laws.specs.Outcome.{Line, stopped, first, never}
+
+-- the numbers of lines, in the order in which they are tested
+abbrev pub numbers : List Line → List ℕ
+numbers ls = map (λ l. l .number) ls
+
+-- whether a number is one of a list
+unfoldable pub among : ℕ → List ℕ → Bool
+among k [] = false
+among k (x ∷ xs) = eqb x k || among k xs
+
+-- one that is not is never that of the first line that applies
+pub not-first : (k : ℕ) (ls : List Line) → among k (numbers ls) ≡ false → first ls ≡ stopped k → ⊥
+unfolding among
+not-first k [] e q = never (sym q)
+not-first k (l ∷ ls) e q = go (eqb (l .number) k) refl e (l .applies) q (not-first k ls)
+  where
+    go : (b : Bool) → eqb (l .number) k ≡ b → (b || among k (numbers ls)) ≡ false → (a : Bool) → cond a (stopped (l .number)) (first ls) ≡ stopped k
+        → (among k (numbers ls) ≡ false → first ls ≡ stopped k → ⊥) → ⊥
+    go true w e a q r = true≢false e
+    go false w e true q r = let z : l .number ≡ k = cc in true≢false (sym (eq-eqb (l .number) k z) ∙ w)
+    go false w e false q r = r e q
