@@ -10,19 +10,15 @@ use Rattle.laws.specs.Loop.{by}
 use Rattle.sets.specs.declared.Set.{Set}
 use Rattle.families.specs.Rules.{L}
 use Rattle.movers.specs.Moves.{Fitting, movedBy, moved-same}
-use Rattle.tables.specs.Answer.{Judged}
-use Rattle.tables.specs.Passed.{Tabled, its-lengths, its-output}
+use Rattle.tables.specs.Passed.{Judged, Tabled, judged-output}
 use Rattle.blocks.specs.Answer.{moved}
 
 module _ {A : Type 0} {s : Set} {table : List ℕ} (src dst : List A) (e : Judged s (s .n) (length src) (length dst)) (t : Tabled s table) where
-  lengths : (length src ≡ s .n) × (length dst ≡ s .n)
-  lengths = its-lengths s (s .n) (length src) (length dst) e
-
   pub fitting : Fitting table src dst
   fitting = record {
-    same = lengths .1 ∙ sym (lengths .0);
-    room = omega (arith, t .room, lengths .0);
-    within = λ k h. omega (arith, lengths .0, t .within k (omega (arith, lengths .0)));
+    same = e .output ∙ sym (e .input);
+    room = omega (arith, t .room, e .input);
+    within = λ k h. omega (arith, e .input, t .within k (omega (arith, e .input)));
   }
 
   -- moved by the table is moved by L
@@ -30,6 +26,6 @@ module _ {A : Type 0} {s : Set} {table : List ℕ} (src dst : List A) (e : Judge
   unfolding moved
   output-is way asked z w q =
       q ∙ ap (λ (v : Way). movedBy v (by table) (length src) z src dst) (sym w)
-      ∙ ap (λ (n : ℕ). movedBy way (by table) n z src dst) (lengths .0)
+      ∙ ap (λ (n : ℕ). movedBy way (by table) n z src dst) (e .input)
       ∙ moved-same way (by table) (L s) (s .n) z src dst (t .holds)
-      ∙ sym (its-output s (s .n) (length src) (length dst) e (movedBy way (L s) (s .n) z src dst) dst)
+      ∙ sym (judged-output e (movedBy way (L s) (s .n) z src dst) dst)

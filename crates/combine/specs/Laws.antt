@@ -49,7 +49,7 @@ module _ (s : Set) (b : Reception) (h : Kept) (e : addedOf s b h ≡ done tt) wh
   its-perm = tabled.its-perm s (s .n) (inputOf s b h) (outputOf s b h) its-block
 
   pub its-lengths : Long (s .n) b h
-  its-lengths = all-long s b h its-block
+  its-lengths = all-long s b h (tabled.judged-so s (s .n) (inputOf s b h) (outputOf s b h) its-block)
 
   -- by input index, what each position becomes
   pub sums-are : sumsOf s b h ≡ run (λ k. heardIn s b h k .sum) 0 (s .n)

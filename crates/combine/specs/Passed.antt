@@ -16,9 +16,9 @@ use Rattle.laws.specs.Perm.{Perm, once}
 use Rattle.sets.specs.declared.Set.{Set}
 use Rattle.sets.specs.declared.Refusal.{Refusal}
 use Rattle.sets.specs.Verdict.{setLines, refusal}
-use Rattle.families.specs.Rules.{L, M}
-use Rattle.tables.specs.Answer.{lengthLines, blockLines, movedOf, Judged}
-use Rattle.tables.specs.Passed.{Tabled, its-perm, its-lengths}
+use Rattle.families.specs.Rules.{L, M, lawful}
+use Rattle.tables.specs.Answer.{lengthLines, blockLines, movedOf}
+use Rattle.tables.specs.Passed.{Judged, Tabled, block-served}
 use Rattle.positions.specs.declared.Running.{Running}
 use Rattle.positions.specs.Heard.{Reception, Kept, held, heard}
 use Rattle.adders.specs.Any.{any, any-none}
@@ -57,9 +57,8 @@ module _ (s : Set) (b : Reception) (h : Kept) where
   -- then every length is N
   pub all-long : Lent → Long (s .n) b h
   all-long e =
-      let l = its-lengths s (s .n) inputOf outputOf e in
-      let i = both-on (s .n) (length (b .received)) (length (b .present)) (l .0) in
-      let o = both-on (s .n) (length (h .sums)) (length (h .counts)) (l .1) in
+      let i = both-on (s .n) (length (b .received)) (length (b .present)) (e .input) in
+      let o = both-on (s .n) (length (h .sums)) (length (h .counts)) (e .output) in
       record { received = i .0; present = i .1; sums = o .0; counts = o .1 }
 
   -- what judging says is of these lengths
@@ -88,7 +87,7 @@ module _ (s : Set) (b : Reception) (h : Kept) where
   -- it is, and the table holds L: all is as long as it must be, and the values decide
   module _ {table : List ℕ} (e : Lent) (t : Tabled s table) where
     perm : Perm (s .n) (L s) (M s)
-    perm = its-perm s (s .n) inputOf outputOf e
+    perm = lawful s (e .accepted) .perm
 
     long : Long (s .n) b h
     long = all-long e
@@ -106,7 +105,7 @@ module _ (s : Set) (b : Reception) (h : Kept) where
     by-values : first (addLines s b h) ≡ first (valueLines (by table) (length (b .received)) b h)
     by-values =
         ap first lines-are
-        ∙ done-front (refusal s) tt tt (blockLines s (s .n) inputOf outputOf) (valueLines (L s) (s .n) b h) e
+        ∙ done-front (refusal s) tt tt (blockLines s (s .n) inputOf outputOf) (valueLines (L s) (s .n) b h) (block-served s (s .n) (e .accepted) (e .input) (e .output))
         ∙ ap first (sym (lines-same (by table) (L s) (s .n) b h (t .holds)) ∙ ap (λ (n : ℕ). valueLines (by table) n b h) (sym (long .received)))
 
     module _ {number : ℕ} (j : number ≡ ruled (first (valueLines (by table) (length (b .received)) b h))) where

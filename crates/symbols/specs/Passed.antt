@@ -9,17 +9,14 @@ use Rattle.laws.specs.Loop.{by}
 use Rattle.sets.specs.declared.Set.{Set}
 use Rattle.families.specs.Rules.{L}
 use Rattle.movers.specs.Moves.{moved-same}
-use Rattle.tables.specs.Answer.{Judged}
-use Rattle.tables.specs.Passed.{Tabled, its-lengths, its-output}
+use Rattle.tables.specs.Passed.{Judged, Tabled, judged-output}
 use Rattle.symbol_movers.specs.Groups.{groups, joined}
 use Rattle.symbol_movers.specs.Grouped.{symbolsBy, Movable}
 use Rattle.symbols.specs.Answer.{movedSymbols}
 
 module _ {A : Type 0} {s : Set} (w : ℕ) {table : List ℕ} (src dst : List A) (e : Judged s (s .n * w) (length src) (length dst)) (t : Tabled s table) where
   pub movable : Movable table (s .n) w src dst
-  movable =
-      let l = its-lengths s (s .n * w) (length src) (length dst) e in
-      record { room = t .room; within = t .within; src-long = l .0; dst-long = l .1 }
+  movable = record { room = t .room; within = t .within; src-long = e .input; dst-long = e .output }
 
   -- moved by the table is moved by L
   pub output-is : (way asked : Way) {got : List A} → way ≡ asked → got ≡ symbolsBy asked (by table) (s .n) w src dst → got ≡ movedSymbols way s w src dst
@@ -27,4 +24,4 @@ module _ {A : Type 0} {s : Set} (w : ℕ) {table : List ℕ} (src dst : List A) 
   output-is way asked v q =
       q ∙ ap (λ (x : Way). symbolsBy x (by table) (s .n) w src dst) (sym v)
       ∙ ap joined (moved-same way (by table) (L s) (s .n) [] (groups w (s .n) src) (groups w (s .n) dst) (t .holds))
-      ∙ sym (its-output s (s .n * w) (length src) (length dst) e (symbolsBy way (L s) (s .n) w src dst) dst)
+      ∙ sym (judged-output e (symbolsBy way (L s) (s .n) w src dst) dst)

@@ -24,10 +24,6 @@ blockLines s total i o = setLines s ++ lengthLines total i o
 abbrev pub movedOf : Set → ℕ → ℕ → ℕ → Outcome Refusal (Unit {0})
 movedOf s total i o = judged (refusal s) (blockLines s total i o) tt
 
--- it was judged, and nothing is in its way
-abbrev pub Judged : Set → ℕ → ℕ → ℕ → Type 0
-Judged s total i o = movedOf s total i o ≡ done tt
-
 -- every symbol changed by any function, it says the same
 pub blind-answer : {A B : Type 0} (h : A → B) (s : Set) (src dst : List A) (total : ℕ)
     → movedOf s total (length (map h src)) (length (map h dst)) ≡ movedOf s total (length src) (length dst)

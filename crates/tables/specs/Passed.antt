@@ -8,7 +8,7 @@ use lib.ListN.{length}
 use borrow.Author.Tests.{eq-eqb, ne-eqb, eqb-true, not-false}
 use Rattle.laws.specs.declared.Way.the-variants.{Interleaver}
 use Rattle.laws.specs.declared.Leaf.{Leaf}
-use Rattle.laws.specs.Outcome.{refused, clear, first, after, clear-back, first-clear, answer-keeps, answer-clear}
+use Rattle.laws.specs.Outcome.{done, refused, clear, first, after, clear-back, first-clear, answer-keeps, answer-clear}
 use Rattle.laws.specs.Loop.{by, Within}
 use Rattle.laws.specs.Perm.{Perm}
 use Rattle.laws.specs.Leaves.{holds-l}
@@ -18,12 +18,18 @@ use Rattle.sets.specs.Verdict.{setLines, refusal, verdictOf}
 use Rattle.sets.specs.Admits.{Accepted, accepted-front, set-refused, front-accepted}
 use Rattle.families.specs.Rules.{L, M, lawful}
 use Rattle.families.specs.Taken.{WalkLeaf, leaf-had}
-use Rattle.tables.specs.Answer.{lengthLines, blockLines, movedOf, Judged}
+use Rattle.tables.specs.Answer.{lengthLines, blockLines, movedOf}
 
--- N, and that it is at most 6,144 if the set is accepted
+-- N, which is at most 6,144
 pub record SizeOf (s : Set) (r : ℕ) : Type 0 where
   pub size : r ≡ s .n
-  pub most : Accepted s → s .n ≤ 6144
+  pub most : s .n ≤ 6144
+
+-- a block that was judged, and nothing is in its way: its set is accepted, and the lengths are the block's
+pub record Judged (s : Set) (total i o : ℕ) : Type 0 where
+  pub accepted : Accepted s
+  pub input : i ≡ total
+  pub output : o ≡ total
 
 -- a table holds L, and has room for it
 pub record Tabled (s : Set) (table : List ℕ) : Type 0 where
@@ -49,34 +55,37 @@ module _ (s : Set) (total i o : ℕ) (a : Accepted s) where
   is-six e n q = rw (front, eq-eqb i total e, ne-eqb o total n) (ap refused q)
 
 -- a block of the lengths that it must have, of an accepted set, is moved
-pub block-served : (s : Set) (total : ℕ) {i o : ℕ} → Accepted s → i ≡ total → o ≡ total → Judged s total i o
+pub block-served : (s : Set) (total : ℕ) {i o : ℕ} → Accepted s → i ≡ total → o ≡ total → movedOf s total i o ≡ done tt
 block-served s total {i} {o} a e f = rw (front s total i o a, eq-eqb i total e, eq-eqb o total f)
 
--- a block that was judged: the set is accepted, and the lengths are the block's
-module _ (s : Set) (total i o : ℕ) (e : Judged s total i o) where
+-- where a call on a block is done, it was judged so
+module _ (s : Set) (total i o : ℕ) (e : movedOf s total i o ≡ done tt) where
   all-clear : first (blockLines s total i o) ≡ clear
   all-clear = answer-clear (refusal s) tt (blockLines s total i o) e
 
-  pub its-set : Accepted s
+  pub judged-so : Judged s total i o
   unfolding blockLines
-  its-set = front-accepted s (lengthLines total i o) all-clear
+  judged-so =
+      let c = first-clear (lengthLines total i o) (clear-back (setLines s) (lengthLines total i o) all-clear) in
+      record {
+        accepted = front-accepted s (lengthLines total i o) all-clear;
+        input = eqb-true i total (not-false (eqb i total) (c .0));
+        output = eqb-true o total (not-false (eqb o total) (c .1 .0));
+      }
 
   pub its-perm : Perm (s .n) (L s) (M s)
-  its-perm = lawful s its-set .perm
+  its-perm = lawful s (judged-so .accepted) .perm
 
   pub its-lengths : (i ≡ total) × (o ≡ total)
-  unfolding blockLines
-  its-lengths =
-      let c = first-clear (lengthLines total i o) (clear-back (setLines s) (lengthLines total i o) all-clear) in
-      (eqb-true i total (not-false (eqb i total) (c .0)), eqb-true o total (not-false (eqb o total) (c .1 .0)))
-
-  -- it has room in the largest table
-  pub its-room : {r : ℕ} → SizeOf s r → s .n ≤ 6144
-  its-room z = z .most its-set
+  its-lengths = (judged-so .input, judged-so .output)
 
   -- and a buffer after the call is the new one
   pub its-output : {B : Type 0} (new old : B) → after (blockLines s total i o) new old ≡ new
   its-output new old = rw all-clear
+
+-- and so for one that was judged
+pub judged-output : {B : Type 0} {s : Set} {total i o : ℕ} → Judged s total i o → (new old : B) → after (blockLines s total i o) new old ≡ new
+judged-output {B} {s} {total} {i} {o} j new old = its-output s total i o (block-served s total (j .accepted) (j .input) (j .output)) new old
 
 -- one that was refused: a buffer after the call is the old one
 pub kept-output : {B : Type 0} (s : Set) (total i o : ℕ) {x : Refusal} → refused x ≡ movedOf s total i o → (new old : B)

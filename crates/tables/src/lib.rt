@@ -24,8 +24,9 @@ pub enum Moved {
     Refused(Refusal),
 }
 
-// N: how many addresses the table of a set holds. Of an accepted set the largest table has room for them.
+// N: how many addresses the table of an accepted set holds. The largest table has room for them.
 pub fn size_of(set: Set) -> usize
+    requires { ⌜ Accepted set ⌝ }
     ensures { λ r. ⌜ SizeOf set r ⌝ }
 {
     set.n as usize

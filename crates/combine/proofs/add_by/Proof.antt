@@ -1,5 +1,4 @@
 -- `combine::add_by` meets its contract: the table holds L, and then the refusal of the values, or the block added by it.
-use Rattle.tables.specs.Passed.{its-set}
 use Rattle.combine.specs.Passed.{fits-table, values-refused, sums-refused, counts-refused, ready, values-done, sums-done, counts-done}
 use borrow.Author.Needs.{needs}
 use Rattle.combine.proofs.add_by.Statement.{statement}
@@ -17,7 +16,7 @@ pub add-by-spec : {M : Type 1} → statement M
 add-by-spec =
     tie.close
     (tie.spec
-    (λ c κs. let p = c .before .before .before .before .before .before .pre in (its-set _ _ _ _ (p .0), p .1))
+    (λ c κs. search needs)
     (λ c κs. let f = c .before .before .before .before .before in fits-table _ _ _ (start f .pre .0) (f .fill .ensures))
     (λ c κs. search needs)
     (λ c. search needs)

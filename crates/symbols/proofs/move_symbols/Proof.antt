@@ -3,7 +3,7 @@ use Prim.Native.Nat.{ℕ, _*_}
 use mathlib.Core.Path.{_≡_, sym, ap, _∙_}
 use lib.ListN.{length}
 use Rattle.tables.specs.Answer.{movedOf, sayMoved}
-use Rattle.tables.specs.Passed.{kept-output}
+use Rattle.tables.specs.Passed.{judged-so, kept-output}
 use Rattle.symbols.specs.Answer.{movedSymbols}
 use borrow.Author.Needs.{needs}
 use Rattle.symbols.proofs.move_symbols.Statement.{statement}
@@ -28,7 +28,7 @@ move-symbols-spec =
     (λ c κs. search needs)
     (λ c. search needs)
     (λ c. search needs)
-    (λ c κs. let t = c .before in sym (says (t .before .before)) ∙ ap sayMoved (t .enum-told .given .1))
+    (λ c κs. let t = c .before in judged-so _ _ _ _ (sym (says (t .before .before)) ∙ ap sayMoved (t .enum-told .given .1)))
     returns
     (λ c. search needs)
     (λ c. let t = c .before .before .before .before in (sym (ap sayMoved (t .enum-told .given .1)) ∙ says (t .before .before), c .before .before .move-judged .ensures)))

@@ -9,7 +9,7 @@ cast-result : tie.Need-cast-result
 cast-result c = search needs
 
 returns : tie.Need-returns
-returns c = record { size = refl; most = sizes-small (c .before .args .set) }
+returns c = record { size = refl; most = sizes-small (c .before .args .set) (c .before .pre) }
 
 pub size-of-spec : {M : Type 1} → statement M
 size-of-spec = tie.close (tie.spec cast-result returns)

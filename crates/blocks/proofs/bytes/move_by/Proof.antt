@@ -1,6 +1,5 @@
 -- `blocks::bytes::move_by` meets its contract: the table holds L, and the symbols are moved by it.
 use Rattle.laws.specs.declared.Way.the-variants.{Interleaver, Deinterleaver}
-use Rattle.tables.specs.Passed.{its-set}
 use Rattle.blocks.specs.Passed.{fitting, output-is}
 use borrow.Author.Needs.{needs}
 use Rattle.blocks.proofs.bytes.move_by.Statement.{statement}
@@ -14,7 +13,7 @@ pub move-by-spec : {M : Type 1} → statement M
 move-by-spec =
     tie.close
     (tie.spec
-    (λ c κs. let p = c .before .before .before .before .pre in (its-set _ _ _ _ (p .0), p .1))
+    (λ c κs. search needs)
     (λ c. search needs)
     (λ c κs. let f = c .before .before .before .before .before .before in fitting _ _ (start f .pre .0) (f .fill .ensures))
     (λ c. search needs)
