@@ -8,7 +8,7 @@ use native.Mathlib.Omega.{arith}
 use lib.Ieee.{Float, nan}
 use lib.ListN.{length, getD}
 use borrow.Author.Tests.{ltb-false}
-use Rattle.laws.specs.Outcome.{Outcome, done, refused, Line, line, clear, stopped, first, judged, after, first-clear, refused-front, kept-front, done-front}
+use Rattle.laws.specs.Outcome.{Outcome, refused, Line, line, clear, stopped, first, judged, after, first-clear, refused-front, kept-front, done-front}
 use Rattle.laws.specs.Run.{run, run-same}
 use Rattle.laws.specs.Move.{scatter, scatter-same}
 use Rattle.laws.specs.Loop.{by}
@@ -17,7 +17,9 @@ use Rattle.sets.specs.declared.Set.{Set}
 use Rattle.sets.specs.declared.Refusal.{Refusal}
 use Rattle.sets.specs.Verdict.{setLines, refusal}
 use Rattle.families.specs.Rules.{L, M, lawful}
-use Rattle.tables.specs.Answer.{lengthLines, blockLines, movedOf}
+use Rattle.tables.specs.declared.Moved.{Moved}
+use Rattle.tables.specs.declared.Moved.the-variants.{Done, Refused}
+use Rattle.tables.specs.Answer.{lengthLines, blockLines, movedOf, sayMoved}
 use Rattle.tables.specs.Passed.{Judged, Tabled, block-served}
 use Rattle.positions.specs.declared.Running.{Running}
 use Rattle.positions.specs.Heard.{Reception, Kept, held, heard}
@@ -33,6 +35,12 @@ pub record Long (n : ℕ) (b : Reception) (h : Kept) : Type 0 where
   pub present : length (b .present) ≡ n
   pub sums : length (h .sums) ≡ n
   pub counts : length (h .counts) ≡ n
+
+-- what adding a block answers, and what it leaves of the sums and the counts
+pub record Added (s : Set) (b : Reception) (h : Kept) (r : Moved) (newSums : List Float) (newCounts : List ℕ) : Type 0 where
+  pub answer : sayMoved r ≡ addedOf s b h
+  pub sums : newSums ≡ sumsOf s b h
+  pub counts : newCounts ≡ countsOf s b h
 
 module _ (s : Set) (b : Reception) (h : Kept) where
   -- the lengths as `tables` judges them
@@ -67,22 +75,18 @@ module _ (s : Set) (b : Reception) (h : Kept) where
 
   -- the block is not taken: so is the call refused, and all is as it was
   module _ {x : Refusal} (e : refused x ≡ movedOf s (s .n) inputOf outputOf) where
-    pub block-refused : refused x ≡ addedOf s b h
+    says-so : refused x ≡ addedOf s b h
     unfolding addedOf
-    block-refused =
+    says-so =
         sym (ap (λ (ls : List Line). judged (refusal s) ls tt) lines-are ∙ refused-front (refusal s) tt (blockLines s (s .n) inputOf outputOf) (valueLines (L s) (s .n) b h) (sym e) tt)
 
     kept-then : {B : Type 0} (new old : B) → old ≡ after (addLines s b h) new old
     kept-then new old =
         sym (ap (λ (ls : List Line). after ls new old) lines-are ∙ kept-front (refusal s) tt (blockLines s (s .n) inputOf outputOf) (valueLines (L s) (s .n) b h) (sym e) new old)
 
-    pub sums-kept : h .sums ≡ sumsOf s b h
-    unfolding sumsOf
-    sums-kept = kept-then (sumsBy (L s) (s .n) b h) (h .sums)
-
-    pub counts-kept : h .counts ≡ countsOf s b h
-    unfolding countsOf
-    counts-kept = kept-then (countsBy (L s) (s .n) b h) (h .counts)
+    pub block-refused : Added s b h (Refused x) (h .sums) (h .counts)
+    unfolding sumsOf countsOf
+    block-refused = record { answer = says-so; sums = kept-then _ (h .sums); counts = kept-then _ (h .counts) }
 
   -- it is, and the table holds L: all is as long as it must be, and the values decide
   module _ {table : List ℕ} (e : Lent) (t : Tabled s table) where
@@ -114,17 +118,9 @@ module _ (s : Set) (b : Reception) (h : Kept) where
         stops : first (addLines s b h) ≡ stopped number
         stops = by-values ∙ ruled-stopped (first (valueLines (by table) (length (b .received)) b h)) (λ z. no-zero (j ∙ z)) ∙ ap stopped (sym j)
 
-        pub values-refused : {x : Refusal} → x ≡ refusal s number → refused x ≡ addedOf s b h
-        unfolding addedOf
-        values-refused q = rw stops (ap refused q)
-
-        pub sums-refused : h .sums ≡ sumsOf s b h
-        unfolding sumsOf
-        sums-refused = rw stops
-
-        pub counts-refused : h .counts ≡ countsOf s b h
-        unfolding countsOf
-        counts-refused = rw stops
+        pub values-refused : {x : Refusal} → x ≡ refusal s number → Added s b h (Refused x) (h .sums) (h .counts)
+        unfolding addedOf sumsOf countsOf
+        values-refused q = record { answer = rw stops (ap refused q); sums = rw stops; counts = rw stops }
 
       -- none does: the block may be added, and what the loop leaves is what the call promises
       module _ (is-zero : number ≡ 0) where
@@ -145,10 +141,6 @@ module _ (s : Set) (b : Reception) (h : Kept) where
               (any-none (isFull (by table) b h) (length (b .received)) (first-clear (valueLines (by table) (length (b .received)) b h) goes .1 .1 .0) k l);
         }
 
-        pub values-done : done tt ≡ addedOf s b h
-        unfolding addedOf
-        values-done = rw (by-values ∙ goes)
-
         -- what the table scatters, L does
         by-table : {A : Type 0} (part : Running → A) (z : A) (old : List A)
             → scatter (by table) (length (b .received)) z (run (λ t. part (heardAt (by table) b h t)) 0 (length (b .received))) old
@@ -160,10 +152,11 @@ module _ (s : Set) (b : Reception) (h : Kept) where
             (λ i g. ap (λ (k : ℕ). part (heard (getD (b .present) i 0) (getD (b .received) i nan) (held h k))) (t .holds i (omega arith))))
             ∙ scatter-same (by table) (L s) (s .n) z (run (λ t. part (heardAt (L s) b h t)) 0 (s .n)) old (t .holds)
 
-        pub sums-done : {got : List Float} → got ≡ sumsBy (by table) (length (b .received)) b h → got ≡ sumsOf s b h
-        unfolding sumsOf
-        sums-done q = q ∙ by-table (λ x. x .sum) nan (h .sums) ∙ rw (by-values ∙ goes)
-
-        pub counts-done : {got : List ℕ} → got ≡ countsBy (by table) (length (b .received)) b h → got ≡ countsOf s b h
-        unfolding countsOf
-        counts-done q = q ∙ by-table (λ x. x .count) 0 (h .counts) ∙ rw (by-values ∙ goes)
+        pub values-done : {gotSums : List Float} {gotCounts : List ℕ} → gotSums ≡ sumsBy (by table) (length (b .received)) b h
+            → gotCounts ≡ countsBy (by table) (length (b .received)) b h → Added s b h Done gotSums gotCounts
+        unfolding addedOf sumsOf countsOf
+        values-done p q = record {
+          answer = rw (by-values ∙ goes);
+          sums = p ∙ by-table (λ x. x .sum) nan (h .sums) ∙ rw (by-values ∙ goes);
+          counts = q ∙ by-table (λ x. x .count) 0 (h .counts) ∙ rw (by-values ∙ goes);
+        }

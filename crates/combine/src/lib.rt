@@ -16,7 +16,7 @@ ghost use Rattle.positions.specs.Heard.{reception, kept};
 ghost use Rattle.laws.specs.Outcome.{done};
 ghost use Rattle.tables.specs.Answer.{sayMoved};
 ghost use Rattle.combine.specs.Answer.{addedOf, sumsOf, countsOf, readOf, sayReading, toldOf};
-ghost use Rattle.combine.specs.Passed.{Lent};
+ghost use Rattle.combine.specs.Passed.{Lent, Added};
 
 // What stands at a position: a soft value, which is the running sum and how many values it is of; or a blank, where the count is 0.
 pub enum Reading {
@@ -35,12 +35,8 @@ fn add_by(
     counts: &mut [u16],
 ) -> Moved
     requires { ⌜ Lent set (reception (now received) (now present)) (kept (now sums) (now counts)) × (set .n ≤ length (now table)) ⌝ }
-    ensures answer { λ r. ⌜ sayMoved r ≡ addedOf set
-        (reception (now (received .entry)) (now (present .entry))) (kept (now (sums .entry)) (now (counts .entry))) ⌝ }
-    ensures sums { λ r. ⌜ now (sums .exit) ≡ sumsOf set
-        (reception (now (received .entry)) (now (present .entry))) (kept (now (sums .entry)) (now (counts .entry))) ⌝ }
-    ensures counts { λ r. ⌜ now (counts .exit) ≡ countsOf set
-        (reception (now (received .entry)) (now (present .entry))) (kept (now (sums .entry)) (now (counts .entry))) ⌝ }
+    ensures { λ r. ⌜ Added set (reception (now (received .entry)) (now (present .entry))) (kept (now (sums .entry)) (now (counts .entry)))
+        r (now (sums .exit)) (now (counts .exit)) ⌝ }
 {
     tables::fill(set, table);
     let number = adders::judge_by(table, received, present, sums, counts);
@@ -60,12 +56,8 @@ fn add_judged(
     counts: &mut [u16],
 ) -> Moved
     requires { ⌜ Lent set (reception (now received) (now present)) (kept (now sums) (now counts)) ⌝ }
-    ensures answer { λ r. ⌜ sayMoved r ≡ addedOf set
-        (reception (now (received .entry)) (now (present .entry))) (kept (now (sums .entry)) (now (counts .entry))) ⌝ }
-    ensures sums { λ r. ⌜ now (sums .exit) ≡ sumsOf set
-        (reception (now (received .entry)) (now (present .entry))) (kept (now (sums .entry)) (now (counts .entry))) ⌝ }
-    ensures counts { λ r. ⌜ now (counts .exit) ≡ countsOf set
-        (reception (now (received .entry)) (now (present .entry))) (kept (now (sums .entry)) (now (counts .entry))) ⌝ }
+    ensures { λ r. ⌜ Added set (reception (now (received .entry)) (now (present .entry))) (kept (now (sums .entry)) (now (counts .entry)))
+        r (now (sums .exit)) (now (counts .exit)) ⌝ }
 {
     let n = tables::size_of(set);
     if n <= SMALL {

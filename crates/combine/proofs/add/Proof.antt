@@ -3,7 +3,7 @@ use mathlib.Core.Path.{_≡_, sym, ap, _∙_}
 use Rattle.positions.specs.Heard.{Reception, Kept, reception, kept}
 use Rattle.tables.specs.Answer.{movedOf, sayMoved}
 use Rattle.tables.specs.Passed.{judged-so}
-use Rattle.combine.specs.Passed.{inputOf, outputOf, said-so, block-refused, sums-kept, counts-kept}
+use Rattle.combine.specs.Passed.{inputOf, outputOf, said-so, block-refused}
 use borrow.Author.Needs.{needs}
 use Rattle.combine.proofs.add.Statement.{statement}
 use Rattle.combine.proofs.add.Tie as tie
@@ -33,7 +33,7 @@ add-spec =
     (λ c. search needs)
     (λ c. search needs)
     (λ c κs. let t = c .before .before in judged-so _ _ _ _ (sym (says (t .before .before)) ∙ ap sayMoved (t .enum-told .given .1)))
-    (λ c. let e = sym (ap sayMoved (c .before .x .given .1)) ∙ says (c .before .before .before) in (block-refused _ _ _ e, (sums-kept _ _ _ e, counts-kept _ _ _ e)))
+    (λ c. let e = sym (ap sayMoved (c .before .x .given .1)) ∙ says (c .before .before .before) in let a = block-refused _ _ _ e in (a .answer, (a .sums, a .counts)))
     (λ c. search needs)
     (λ c. search needs)
-    (λ c. c .before .before .before .before .add-judged .ensures))
+    (λ c. let a = c .before .before .before .before .add-judged .ensures in (a .answer, (a .sums, a .counts))))
