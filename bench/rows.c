@@ -32,21 +32,25 @@ void lay_out(void)
             add_set(1, bits[b], 12 * bits[b] * w, 1);
     for (int b = 0; b < 4; b++)
         add_set(3, bits[b], 48 * bits[b], 1);
+    add_set(5, 1, 40, 1);
     add_set(5, 1, 5114, 1);
-    enum { OFDM_2_384 = 9, OFDM_4_768 = 14, OFDM_6_1152 = 19, WLAN = 20, WLAN_1_48 = 20, WLAN_6_288 = 23, TURBO_5114 = 24 };
-    for (uint32_t i = 0; i < TURBO_5114; i++)
+    enum { OFDM_2_384 = 9, OFDM_4_768 = 14, OFDM_6_1152 = 19, WLAN = 20, WLAN_1_48 = 20, WLAN_6_288 = 23, TURBO_40, TURBO_5114 };
+    for (uint32_t i = 0; i < TURBO_40; i++)
         add_row(WALK, i, 1, 0, "walk", "");
     add_row(WALK, 0, WLAN, 0, "walk, the 20 sets of profile 1", "");
     add_row(WALK, WLAN, 4, 0, "walk, the 4 sets of profile 3", "");
     add_row(WALK, OFDM_6_1152, 1, 1024, "walk", ", slices of 1024");
+    add_row(WALK, TURBO_40, 1, 0, "walk", "");
     add_row(WALK, TURBO_5114, 1, 0, "walk", "");
     add_row(WALK, TURBO_5114, 1, 1024, "walk", ", slices of 1024");
+    add_row(WALK, TURBO_40, 1, NO_ROOM, "walk", ", no room");
+    add_row(WALK, TURBO_5114, 1, NO_ROOM, "walk", ", no room");
     add_row(WRITTEN_OUT, OFDM_2_384, 1, 0, "walk", ", C written out for s = 1");
     add_row(WRITTEN_OUT, OFDM_4_768, 1, 0, "walk", ", C written out for s = 2");
     add_row(WRITTEN_OUT, OFDM_6_1152, 1, 0, "walk", ", C written out for s = 3");
-    static const uint32_t blocks[] = {WLAN_1_48, WLAN_6_288, OFDM_6_1152, TURBO_5114};
-    for (int i = 0; i < 8; i++)
-        add_row(i < 4 ? BYTES : SOFT, blocks[i % 4], 1, 0, i < 4 ? "interleave bytes" : "interleave f32", "");
+    static const uint32_t blocks[] = {WLAN_1_48, WLAN_6_288, OFDM_6_1152, TURBO_40, TURBO_5114};
+    for (int i = 0; i < 10; i++)
+        add_row(i < 5 ? BYTES : SOFT, blocks[i % 5], 1, 0, i < 5 ? "interleave bytes" : "interleave f32", "");
     for (int i = 0; i < 4; i++)
         add_row(i < 2 ? FEED : FEED_BACK, 0, 0, i % 2 == 0 ? 204 : 65280, i < 2 ? "DVB interleaver" : "DVB deinterleaver",
                 i % 2 == 0 ? ", feeds of 204" : ", feeds of 65280");

@@ -35,7 +35,8 @@ fn add_by(
     counts: &mut [u16],
 ) -> Moved
     requires { ⌜ Lent set (reception (now received) (now present)) (kept (now sums) (now counts)) × (set .n ≤ length (now table)) ⌝ }
-    ensures { λ r. ⌜ Added set (reception (now (received .entry)) (now (present .entry))) (kept (now (sums .entry)) (now (counts .entry)))
+    ensures { λ r. ⌜ Added set
+        (reception (now (received .entry)) (now (present .entry))) (kept (now (sums .entry)) (now (counts .entry)))
         r (now (sums .exit)) (now (counts .exit)) ⌝ }
 {
     tables::fill(set, table);
@@ -56,7 +57,8 @@ fn add_judged(
     counts: &mut [u16],
 ) -> Moved
     requires { ⌜ Lent set (reception (now received) (now present)) (kept (now sums) (now counts)) ⌝ }
-    ensures { λ r. ⌜ Added set (reception (now (received .entry)) (now (present .entry))) (kept (now (sums .entry)) (now (counts .entry)))
+    ensures { λ r. ⌜ Added set
+        (reception (now (received .entry)) (now (present .entry))) (kept (now (sums .entry)) (now (counts .entry)))
         r (now (sums .exit)) (now (counts .exit)) ⌝ }
 {
     let n = tables::size_of(set);
