@@ -1,4 +1,5 @@
-/* The order of refusals in every call on a set: those of the set, 1, 2, 3, 16, 11, 10, then the call's own. Nothing that is lent is changed. */
+/* The order of refusals in every call on a set: those of the set, 1, 2, 3, 16, 11, 10, then the call's own. Nothing that is lent is changed. And every
+   K of profile 5, whose search for q is to end. */
 #include "test.h"
 
 #define FAR 4294967295u

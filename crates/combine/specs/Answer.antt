@@ -1,5 +1,5 @@
--- Repeated receptions of a block, added up: the lines of the two calls in the order of change request 2, what they have to say, and what is stored after
--- a call.
+-- Repeated receptions of a block, added up: the lines of the two calls in the order of change request 2, without 8, by request 7, what they have to
+-- say, and what is stored after a call.
 use Prim.Native.Nat.{ℕ}
 use mathlib.Core.Bool.{Bool, cond, not, _&&_}
 use mathlib.Core.List.{List, [], _∷_, _++_}

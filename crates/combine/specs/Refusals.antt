@@ -1,6 +1,6 @@
--- The refusals of the two calls in the sentences of change request 2 and in its order, with 16 of request 4 and 11 and 10 of request 6 after 3: 1, 2, 3, 16,
--- 11, 10, 5, 6, 14, 13, 15 for a block that is added, 1, 2, 3, 16, 11, 10, 4, 6 for a position that is read. A number is said exactly when its sentence
--- is the first that holds, and then all that is stored is what it was.
+-- The refusals of the two calls in the sentences of change request 2 and in its order, with 16 of request 4 and 11 and 10 of request 6 after 3, and without
+-- 8, by request 7: 1, 2, 3, 16, 11, 10, 5, 6, 14, 13, 15 for a block that is added, 1, 2, 3, 16, 11, 10, 4, 6 for a position that is read. A number is said
+-- exactly when its sentence is the first that holds, and then all that is stored is what it was.
 use Prim.Native.Nat.{ℕ, _+_, _≤_, _<_}
 use mathlib.Core.Bool.{Bool, true, false, not, _&&_}
 use mathlib.Core.List.{List, [], _∷_, _++_}

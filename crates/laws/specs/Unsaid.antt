@@ -1,11 +1,11 @@
--- The numbers of lines in their order, and that a call says no other. Rests on Outcome.
+-- The numbers of lines in their order, and that a refusal has no other. Rests on Outcome.
 use Prim.Native.Nat.{ℕ}
 use mathlib.Core.Bool.{Bool, true, false, cond, _||_, true≢false}
 use mathlib.Core.List.{List, [], _∷_, map}
-use mathlib.Core.Path.{_≡_, refl, sym, _∙_}
+use mathlib.Core.Path.{_≡_, refl, sym, ap, _∙_}
 use lib.Dec.{eqb}
 use borrow.Author.Tests.{eq-eqb}
-use Rattle.laws.specs.Outcome.{Line, stopped, first, never}
+use Rattle.laws.specs.Outcome.{refused, Line, stopped, first, judged, refused-first, stopped-first, never}
 
 -- the numbers of lines, in the order in which they are tested
 abbrev pub numbers : List Line → List ℕ
@@ -27,3 +27,11 @@ not-first k (l ∷ ls) e q = go (eqb (l .number) k) refl e (l .applies) q (not-f
     go true w e a q r = true≢false e
     go false w e true q r = let z : l .number ≡ k = cc in true≢false (sym (eq-eqb (l .number) k z) ∙ w)
     go false w e false q r = r e q
+
+-- nor that of what a call refuses with, where a refusal's number is the one it was made of
+pub unsaid : {R A : Type 0} (give : ℕ → R) (number : R → ℕ) → ((k : ℕ) → number (give k) ≡ k) → (k : ℕ) (ls : List Line) (a : A)
+    → among k (numbers ls) ≡ false → (x : R) → judged give ls a ≡ refused x → number x ≡ k → ⊥
+unsaid give number of k ls a e x q w =
+    let g = refused-first give a ls x q in
+    let n : g .number ≡ k = sym (of (g .number)) ∙ sym (ap number (g .refusal-is)) ∙ w in
+    not-first k ls e (stopped-first ls (g .number) (g .its-line) ∙ ap stopped n)

@@ -1,6 +1,6 @@
 -- What the calls on a set answer, either way: their lines in the order of document 01, with 16 of request 4 and 11 and 10 of request 6
--- after 3: 1, 2, 3, 16, 11, 10, 4, 9; their values, and the slice after a walk. A way is a parameter, so that both walks and both addresses have one
--- definition.
+-- after 3, and without 8, by request 7: 1, 2, 3, 16, 11, 10, 4, 9; their values, and the slice after a walk. A way is a parameter, so that both
+-- walks and both addresses have one definition.
 use Prim.Native.Nat.{ℕ, _+_}
 use mathlib.Core.List.{List, [], _∷_, _++_}
 use mathlib.Core.Path.{_≡_, refl}

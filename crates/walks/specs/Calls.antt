@@ -17,7 +17,7 @@ use Rattle.sets.specs.declared.Refusal.{Refusal}
 use Rattle.sets.specs.Verdict.{setLines, refusal}
 use Rattle.walks.specs.declared.Walk.{Walk}
 use Rattle.families.specs.Rules.{ruleIn}
-use Rattle.walks.specs.Answer.{walkLines, walkList, walkCells, walkNext, walkSlice, Values, walkValues, walkedOf, sliceOf}
+use Rattle.walks.specs.Answer.{walkLines, walkList, walkCells, walkNext, Values, walkValues, walkedOf, sliceOf}
 
 -- a call: for L or for M, the record it is given, and the slice that is lent to it
 pub record Call : Type 0 where

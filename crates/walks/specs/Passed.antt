@@ -1,4 +1,5 @@
--- Behind the test of a set: a refused set is refused by every call, and of an accepted one what its leaf says is the answer.
+-- Behind the test of a set: a refused set is refused by every call, and of an accepted one what its leaf says is the answer; of an address, where the
+-- position is below N.
 use Prim.Native.Nat.{ℕ, _+_, _≤_, _<_}
 use mathlib.Core.Bool.{Bool, true, false, cond}
 use mathlib.Core.List.{List, _∷_, _++_}

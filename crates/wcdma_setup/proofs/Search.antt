@@ -10,60 +10,60 @@ use lib.Dec.{eqb, ltb}
 use borrow.Author.Tests.{ltb-true, ltb-false, eq-eqb, ne-eqb, le-ltb, lt-ltb}
 use Rattle.laws.specs.Euclid.{gcd}
 use Rattle.laws.specs.Span.{span, at-number}
-use Rattle.wcdma_setup.specs.Numbers.{noDivisor, isPrime, passes, nextIn, nextQ}
+use Rattle.wcdma_setup.specs.Numbers.{noDivisor, isPrime, passes, nextIn, farthest, nextQ}
 
-next-step : (m q : ℕ) → q < 89 → nextIn m (suc q) (89 - q) ≡ cond (passes m (suc q)) (suc q) (nextIn m (suc (suc q)) (89 - suc q))
+next-step : (m q : ℕ) → q < farthest → nextIn m (suc q) (farthest - q) ≡ cond (passes m (suc q)) (suc q) (nextIn m (suc (suc q)) (farthest - suc q))
 unfolding nextIn
-next-step m q h = rw (let e : 89 - q ≡ suc (89 - suc q) = omega arith in e)
+next-step m q h = rw (let e : farthest - q ≡ suc (farthest - suc q) = omega arith in e)
 
--- where one is still to be found, 89 is not reached
-pub below-89 : (m q : ℕ) → (nextIn m (suc q) (89 - q) ≡ 0 → ⊥) → q < 89
+-- where one is still to be found, the farthest is not reached
+pub below-farthest : (m q : ℕ) → (nextIn m (suc q) (farthest - q) ≡ 0 → ⊥) → q < farthest
 unfolding nextIn
-below-89 m q h = go (ltb q 89) refl
+below-farthest m q h = go (ltb q farthest) refl
   where
-    go : (b : Bool) → ltb q 89 ≡ b → q < 89
-    go true e = ltb-true q 89 e
-    go false e = let l = ltb-false q 89 e in absurd (h (rw (let e : 89 - q ≡ 0 = omega arith in e)))
+    go : (b : Bool) → ltb q farthest ≡ b → q < farthest
+    go true e = ltb-true q farthest e
+    go false e = let l = ltb-false q farthest e in absurd (h (rw (let e : farthest - q ≡ 0 = omega arith in e)))
 
 pub even-prime : (q : ℕ) → 2 < q → q % 2 ≡ 0 → isPrime q ≡ false
 unfolding isPrime noDivisor
 even-prime q h e = rw (lt-ltb 1 q (omega arith), let w : q - 2 ≡ suc (q - 3) = omega arith in w, eq-eqb (q % 2) 0 e)
 
 -- a number that is no prime is passed over
-passed-over : (m q : ℕ) → q < 89 → isPrime (suc q) ≡ false → nextIn m (suc q) (89 - q) ≡ nextIn m (suc (suc q)) (89 - suc q)
+passed-over : (m q : ℕ) → q < farthest → isPrime (suc q) ≡ false → nextIn m (suc q) (farthest - q) ≡ nextIn m (suc (suc q)) (farthest - suc q)
 unfolding passes
 passed-over m q h e = next-step m q h ∙ rw e
 
 -- from 5 on the search goes on from where it is: 6 is no prime
-pub search-on : (m q : ℕ) → 5 ≤ q → nextQ m q ≡ nextIn m (suc q) (89 - q)
+pub search-on : (m q : ℕ) → 5 ≤ q → nextQ m q ≡ nextIn m (suc q) (farthest - q)
 unfolding nextQ
 search-on m q h =
     ⊎-elim (λ e. rw (← e) (sym (passed-over m 5 (omega arith) (even-prime 6 (omega arith) refl)))) (λ l. rw (le-ltb q 6 l)) (eq-or-lt-of-le h)
 
 -- after an odd q the candidate is q + 2
-module _ (m q : ℕ) (big : 5 ≤ q) (h : q < 89) (o : q % 2 ≡ 1) where
+module _ (m q : ℕ) (big : 5 ≤ q) (h : q < farthest) (o : q % 2 ≡ 1) where
   pub candidate-odd : (q + 2) % 2 ≡ 1
   candidate-odd = omega arith
 
   pub candidate-low : q + 2 < 90
   candidate-low = omega arith
 
-  candidate : nextIn m (suc q) (89 - q) ≡ cond (passes m (q + 2)) (q + 2) (nextIn m (suc (q + 2)) (89 - (q + 2)))
+  candidate : nextIn m (suc q) (farthest - q) ≡ cond (passes m (q + 2)) (q + 2) (nextIn m (suc (q + 2)) (farthest - (q + 2)))
   candidate =
       passed-over m q h (even-prime (suc q) (omega arith) (omega arith))
       ∙ next-step m (suc q) (omega arith)
-      ∙ ap (λ (x : ℕ). cond (passes m x) x (nextIn m (suc x) (89 - x))) (let e : suc (suc q) ≡ q + 2 = omega arith in e)
+      ∙ ap (λ (x : ℕ). cond (passes m x) x (nextIn m (suc x) (farthest - x))) (let e : suc (suc q) ≡ q + 2 = omega arith in e)
 
   -- one that is no prime, or has a common divisor with m, is passed over
-  pub next-composite : isPrime (q + 2) ≡ false → nextIn m (suc q) (89 - q) ≡ nextIn m (suc (q + 2)) (89 - (q + 2))
+  pub next-composite : isPrime (q + 2) ≡ false → nextIn m (suc q) (farthest - q) ≡ nextIn m (suc (q + 2)) (farthest - (q + 2))
   unfolding passes
   next-composite e = candidate ∙ rw e
 
-  pub next-shared : isPrime (q + 2) ≡ true → (gcd m (q + 2) ≡ 1 → ⊥) → nextIn m (suc q) (89 - q) ≡ nextIn m (suc (q + 2)) (89 - (q + 2))
+  pub next-shared : isPrime (q + 2) ≡ true → (gcd m (q + 2) ≡ 1 → ⊥) → nextIn m (suc q) (farthest - q) ≡ nextIn m (suc (q + 2)) (farthest - (q + 2))
   unfolding passes
   next-shared e n = candidate ∙ rw (e, ne-eqb (gcd m (q + 2)) 1 n)
 
-  pub next-found : isPrime (q + 2) ≡ true → gcd m (q + 2) ≡ 1 → nextIn m (suc q) (89 - q) ≡ q + 2
+  pub next-found : isPrime (q + 2) ≡ true → gcd m (q + 2) ≡ 1 → nextIn m (suc q) (farthest - q) ≡ q + 2
   unfolding passes
   next-found e n = candidate ∙ rw (e, eq-eqb (gcd m (q + 2)) 1 n)
 

@@ -14,6 +14,11 @@ use Rattle.wcdma_shape.specs.Rectangle.{primes}
 use Rattle.wcdma_setup.specs.Numbers.{noDivisor, isPrime, passes, nextIn, nextQ, qOf}
 use Rattle.wcdma_setup.specs.Primes.{Next, next-is, next-low}
 
+-- 89 is reached: p = 239, where 7 and 17 divide p - 1, row 19
+pub q-reached : qOf 238 19 ≡ 89
+unfolding gcdIn gcd noDivisor isPrime passes nextIn nextQ qOf
+q-reached = refl
+
 -- q has an inverse modulo m
 pub record Unitary (m q : ℕ) : Type 0 where
   pub back : ℕ
@@ -64,8 +69,3 @@ module _ {p : ℕ} (m : List·Memᴰ p primes) where
   pub q-ends : (i : ℕ) → suc i < 20 → Next (p - 1) (qOf (p - 1) i) (qOf (p - 1) (suc i)) × (qOf (p - 1) (suc i) ≤ 89)
   unfolding qOf
   q-ends i l = (next-is (p - 1) (qOf (p - 1) i) (q-found (suc i) l), next-low (p - 1) (qOf (p - 1) i))
-
--- and 89 is reached: p = 239, where 7 and 17 divide p - 1, row 19
-pub q-reached : qOf 238 19 ≡ 89
-unfolding gcdIn gcd noDivisor isPrime passes nextIn nextQ qOf
-q-reached = refl

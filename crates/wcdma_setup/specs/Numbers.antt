@@ -31,9 +31,13 @@ nextIn m q (suc n) =
 abbrev pub above : ℕ → ℕ
 above q = cond (ltb q 6) 6 q
 
+-- how far each is looked for
+abbrev pub farthest : ℕ
+farthest = 89
+
 -- the least number above 6 and above q that passes; 0 if it would be above 89
 unfoldable pub nextQ : ℕ → ℕ → ℕ
-nextQ m q = nextIn m (suc (above q)) (89 - above q)
+nextQ m q = nextIn m (suc (above q)) (farthest - above q)
 
 -- q(i): q(0) = 1, and each next is the least above the last (3), for m = p - 1
 unfoldable pub qOf : ℕ → ℕ → ℕ

@@ -14,7 +14,7 @@ use Rattle.laws.specs.Keep.{keep}
 use Rattle.laws.specs.Cut.{keep-has}
 use Rattle.wcdma_shape.specs.Rectangle.{primes}
 use Rattle.wcdma_shape.specs.Shape.{listed-big, listed-small}
-use Rattle.wcdma_setup.specs.Numbers.{noDivisor, isPrime, passes, nextIn, above, nextQ}
+use Rattle.wcdma_setup.specs.Numbers.{noDivisor, isPrime, passes, nextIn, above, farthest, nextQ}
 
 -- q is above 1 and has no divisor from 2 to q - 1
 pub record Prime (q : ℕ) : Type 0 where
@@ -110,7 +110,7 @@ above-least q x h l = go (ltb q 6)
 pub next-is : (m last : ℕ) → (nextQ m last ≡ 0 → ⊥) → Next m last (nextQ m last)
 unfolding nextQ passes
 next-is m last h =
-    let f = next-passes m (suc (above last)) (89 - above last) h in
+    let f = next-passes m (suc (above last)) (farthest - above last) h in
     let s = both (isPrime (nextQ m last)) (eqb (gcd m (nextQ m last)) 1) (f .0) in
     let a = above-both last in
     let o = f .1 in
@@ -121,14 +121,14 @@ next-is m last h =
       alone = eqb-true (gcd m (nextQ m last)) 1 (s .1);
       least = λ x b c p g.
           let n : ¬ (x < nextQ m last) = λ l.
-          true≢false (sym (fits x p g) ∙ next-least m (suc (above last)) (89 - above last) x (above-least last x b c) l) in
+          true≢false (sym (fits x p g) ∙ next-least m (suc (above last)) (farthest - above last) x (above-least last x b c) l) in
           omega arith;
     }
   where
     fits : (x : ℕ) → Prime x → gcd m x ≡ 1 → passes m x ≡ true
     fits x p g = rw (prime-is x p, eq-eqb (gcd m x) 1 g)
 
--- it is at most 89
+-- it is at most 89, as far as is looked
 none-above : (m q n top : ℕ) → (0 < n → q + n ≤ suc top) → nextIn m q n ≤ top
 unfolding nextIn
 none-above m q zero top h = omega arith
@@ -138,6 +138,6 @@ none-above m q (suc n) top h = go (passes m q) (none-above m (suc q) n top (λ o
     go true l = let o = h (omega arith) in omega arith
     go false l = l
 
-pub next-low : (m last : ℕ) → nextQ m last ≤ 89
+pub next-low : (m last : ℕ) → nextQ m last ≤ farthest
 unfolding nextQ
-next-low m last = none-above m (suc (above last)) (89 - above last) 89 (λ o. omega arith)
+next-low m last = none-above m (suc (above last)) (farthest - above last) farthest (λ o. omega arith)

@@ -35,7 +35,7 @@ fn walk_by(shape: Shape, cell: usize, out: &mut [u16]) -> Leaf
     went
 }
 
-// The walk from any cell into the slice: it stops right after the slice is full, or at the last cell. 9 past the last cell.
+// The walk from any cell into the slice: it stops right after the slice is full, or at the cell total. 9 past the total.
 pub fn walk(k: usize, cell: usize, out: &mut [u16]) -> Leaf
     requires { ⌜ Size k ⌝ }
     ensures { λ r. ⌜ LeafOf k (turboRule k) cell (now (out .entry)) (now (out .exit)) r ⌝ }

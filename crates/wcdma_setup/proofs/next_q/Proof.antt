@@ -6,8 +6,8 @@ use mathlib.Core.Bool.{true}
 use mathlib.Core.Path.{_∙_, _≡_, sym}
 use native.Mathlib.Nat.{mul-le-mul}
 use native.Mathlib.Omega.{arith}
-use Rattle.wcdma_setup.proofs.Search.{below-89, candidate-low, candidate-odd, next-composite, next-found, next-shared, odd-end, odd-found, odd-not, odd-prime, oddTest, search-on, small-root}
-use Rattle.wcdma_setup.specs.Numbers.{isPrime, nextIn, nextQ}
+use Rattle.wcdma_setup.proofs.Search.{below-farthest, candidate-low, candidate-odd, next-composite, next-found, next-shared, odd-end, odd-found, odd-not, odd-prime, oddTest, search-on, small-root}
+use Rattle.wcdma_setup.specs.Numbers.{isPrime, nextIn, farthest, nextQ}
 use Rattle.wcdma_setup.proofs.next_q.Statement.{statement}
 use Rattle.wcdma_setup.proofs.next_q.Tie as tie
 
@@ -18,21 +18,22 @@ abbrev μ-loop : tie.MeasureT-loop
 μ-loop m last q d₀ d = 11 - d
 
 abbrev Inv-candidates : tie.InvT-candidates
-Inv-candidates m last q₀ q = (nextQ m last ≡ nextIn m (suc q) (89 - q)) × (5 ≤ q) × (q % 2 ≡ 1)
+Inv-candidates m last q₀ q = (nextQ m last ≡ nextIn m (suc q) (farthest - q)) × (5 ≤ q) × (q % 2 ≡ 1)
 
 abbrev μ-candidates : tie.MeasureT-candidates
-μ-candidates m last q₀ q = 89 - q
+μ-candidates m last q₀ q = farthest - q
 
 candidates-holds : tie.Need-candidates-holds Inv-loop μ-loop Inv-candidates μ-candidates
 candidates-holds c = (search-on (c .args .m) (c .args .last) (c .pre .high), c .pre .high, c .pre .odd)
 
--- the candidate is odd and at most 89
-below : (c : tie.At-candidates Inv-loop μ-loop Inv-candidates μ-candidates) → c .candidates .q < 89
-below c = below-89 (c .before .args .m) (c .candidates .q) (λ e. c .before .pre .some (c .candidates .inv .0 ∙ e))
+-- where one is still to be found, the last candidate is below 89
+below : (c : tie.At-candidates Inv-loop μ-loop Inv-candidates μ-candidates) → c .candidates .q < farthest
+below c = below-farthest (c .before .args .m) (c .candidates .q) (λ e. c .before .pre .some (c .candidates .inv .0 ∙ e))
 
 add-q : tie.Need-add-q Inv-loop μ-loop Inv-candidates μ-candidates
 add-q c = omega (arith, below c)
 
+-- so the next is odd and at most 89
 low : (c : tie.At-candidates Inv-loop μ-loop Inv-candidates μ-candidates) → c .candidates .q + 2 < 90
 low c = candidate-low 0 (c .candidates .q) (c .candidates .inv .1) (below c) (c .candidates .inv .2)
 
