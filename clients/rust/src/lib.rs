@@ -137,14 +137,15 @@ impl Set {
         self.n as usize
     }
 
-    /// L(t): the input index that output `t` holds.
+    /// L(t): the input index that output `t` holds. For profile 5 it is found by walking up to it.
     pub fn source(&self, t: u32) -> Result<u32, Refusal> {
         let mut address = 0;
         // SAFETY: numbers, and a number of this call's own.
         answer(unsafe { raw::interleaver_address_l(self, t, &mut address) }).map(|()| address)
     }
 
-    /// M(k): the output index that input `k` goes to. For profile 8 it is found by walking there, up to N steps.
+    /// M(k): the output index that input `k` goes to. For profile 5 it is looked up in the whole list, which is walked first; for profile 8 it is found by
+    /// walking there, up to N steps.
     pub fn target(&self, k: u32) -> Result<u32, Refusal> {
         let mut address = 0;
         // SAFETY: as above.
