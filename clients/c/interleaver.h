@@ -6,8 +6,8 @@
        if (interleaver_interleave_bytes(&set, in, 192, out, 192) != INTERLEAVER_DONE)
            return -1;
 
-   Every call gives 0 when it is done, else the number of its first refusal, in the order in which its comment lists them; a refused call
-   leaves every buffer and every out-parameter as it was. L is the list of input indices in output order, M its inverse: interleaving gives
+   Every call but interleaver_fitting gives 0 when it is done, else the number of its first refusal, in the order in which its comment lists them; a refused
+   call leaves every buffer and every out-parameter as it was. L is the list of input indices in output order, M its inverse: interleaving gives
    out[t] = in[L(t)], deinterleaving out[L(t)] = in[t]. A buffer is a pointer and the number of its elements.
 
    The caller sees to it that no pointer is null (not even of a buffer of length 0), that each points to as much memory as its length says,
@@ -83,6 +83,11 @@ static inline interleaver_set interleaver_set_lte(uint32_t k, uint32_t f1, uint3
 
 /* The test of a parameter set. Refusals 1, 2, 3, 16, 11, 10. */
 uint32_t interleaver_test(const interleaver_set *set);
+
+/* Which n would have fitted: where the test of the set gives 3, the least listed n not below its own, for its profile and bits, or 0 if there is none.
+   0 where the test gives anything else. What is given is a size, not a refusal. For a k that interleaver_lte_factors refuses, ask with
+   interleaver_set_of(INTERLEAVER_LTE, 1, k). */
+uint32_t interleaver_fitting(const interleaver_set *set);
 
 /* The standard's own factors for a block of k of profile 8, 3GPP TS 36.212 table 5.1.3-3: f1, f2, 0, 0. A set's own may be handed over: set.factors.
    Every set made of them is accepted. Refusal 3. */

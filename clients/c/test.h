@@ -73,6 +73,7 @@ uint32_t read_at(interleaver_set set, uint32_t position, uint32_t *sum, uint16_t
 void sums_refused(interleaver_set set, const uint16_t *l);
 void sums_of_refused_sets(void);
 
+void fitting(void);
 void walks(void);
 void spatial(void);
 void lte(void);

@@ -14,6 +14,7 @@
 //! assert_eq!((sent[1], set.source(1)?), (16, 16));
 //! assert_eq!(received[..], input[..]);
 //! assert_eq!(set.interleave(&input, &mut sent[1..]), Err(Refusal::Output));
+//! assert_eq!(Set::new(3, 4, 100), Err(Refusal::Size { fits: 192 })); // the least listed N that is not below 100
 //!
 //! let fourth = Set::new(7, 6, 648)?.with_stream(4); // IEEE 802.11n at 40 MHz, the fourth spatial stream
 //! assert_eq!((fourth.target(0)?, fourth.source(126)?), (126, 0));
@@ -37,6 +38,7 @@ mod raw {
     use super::Set;
     extern "C" {
         pub fn interleaver_test(set: &Set) -> u32;
+        pub fn interleaver_fitting(set: &Set) -> u32;
         pub fn interleaver_lte_factors(k: u32, factors: &mut [u32; 4]) -> u32;
         pub fn interleaver_address_l(set: &Set, t: u32, address: &mut u32) -> u32;
         pub fn interleaver_address_m(set: &Set, k: u32, address: &mut u32) -> u32;
@@ -84,9 +86,15 @@ mod raw {
 }
 
 fn answer(number: u32) -> Result<(), Refusal> {
+    answer_with(number, || 0)
+}
+
+// The answer of a call; what a refusal with 3 carries is asked for then alone.
+fn answer_with(number: u32, fits: impl FnOnce() -> u32) -> Result<(), Refusal> {
     match number {
         0 => Ok(()),
-        refused => Err(Refusal::of(refused)),
+        3 => Err(Refusal::of(3, fits())),
+        refused => Err(Refusal::of(refused, 0)),
     }
 }
 
@@ -109,12 +117,18 @@ macro_rules! block_call {
         #[doc = $what]
         pub fn $name(&self, $($width: u32,)? src: &[$symbol], dst: &mut [$symbol]) -> Result<(), Refusal> {
             // SAFETY: both slices are live and do not overlap, and the call keeps neither pointer.
-            answer(unsafe { raw::$call(self, $($width,)? src.as_ptr(), src.len(), dst.as_mut_ptr(), dst.len()) })
+            self.answer(unsafe { raw::$call(self, $($width,)? src.as_ptr(), src.len(), dst.as_mut_ptr(), dst.len()) })
         }
     };
 }
 
 impl Set {
+    // The answer of a call on this set.
+    fn answer(&self, number: u32) -> Result<(), Refusal> {
+        // SAFETY: the set is eight numbers in a row, as every call reads it.
+        answer_with(number, || unsafe { raw::interleaver_fitting(self) })
+    }
+
     /// The set of stream 1, tested. It has no factors, so that profile 8 is refused: [`Set::lte`] makes sets of that.
     pub fn new(profile: u32, bits: u32, n: u32) -> Result<Set, Refusal> {
         let set = Set { profile, bits, n, stream: 1, factors: [0; 4] };
@@ -128,8 +142,8 @@ impl Set {
 
     /// Tests the set.
     pub fn test(&self) -> Result<(), Refusal> {
-        // SAFETY: the set is eight numbers in a row, as every call reads it.
-        answer(unsafe { raw::interleaver_test(self) })
+        // SAFETY: as above.
+        self.answer(unsafe { raw::interleaver_test(self) })
     }
 
     /// N, the symbols of a block.
@@ -141,7 +155,7 @@ impl Set {
     pub fn source(&self, t: u32) -> Result<u32, Refusal> {
         let mut address = 0;
         // SAFETY: numbers, and a number of this call's own.
-        answer(unsafe { raw::interleaver_address_l(self, t, &mut address) }).map(|()| address)
+        self.answer(unsafe { raw::interleaver_address_l(self, t, &mut address) }).map(|()| address)
     }
 
     /// M(k): the output index that input `k` goes to. For profile 5 it is looked up in the whole list, which is walked first; for profile 8 it is found by
@@ -149,7 +163,7 @@ impl Set {
     pub fn target(&self, k: u32) -> Result<u32, Refusal> {
         let mut address = 0;
         // SAFETY: as above.
-        answer(unsafe { raw::interleaver_address_m(self, k, &mut address) }).map(|()| address)
+        self.answer(unsafe { raw::interleaver_address_m(self, k, &mut address) }).map(|()| address)
     }
 
     /// The whole list L.
@@ -206,7 +220,7 @@ impl Walk {
         let (mut written, mut cells) = (0, 0);
         let call = if self.back { raw::interleaver_walk_m } else { raw::interleaver_walk_l };
         // SAFETY: the slice is live, and the numbers are this call's own and the walk's.
-        answer(unsafe { call(&self.set, &mut self.cell, out.as_mut_ptr(), out.len(), &mut written, &mut cells) })?;
+        self.set.answer(unsafe { call(&self.set, &mut self.cell, out.as_mut_ptr(), out.len(), &mut written, &mut cells) })?;
         Ok(Walked { written: written as usize, cells })
     }
 }

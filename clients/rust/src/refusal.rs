@@ -1,20 +1,28 @@
 //! Why a call was refused.
 
-// A line for each refusal: the number that the calls for C give, a name, and the sentence that the documentation and an error say alike.
+// A line for each refusal: the number that the calls for C give, a name, what it carries with it if anything, and the sentence that the documentation
+// and an error say alike.
 macro_rules! refusals {
-    ($($number:literal $name:ident $sentence:literal)*) => {
+    ($($number:literal $name:ident $({ $size:ident })? $sentence:literal)*) => {
         /// Why a call was refused, with the numbers of the calls for C.
         #[derive(Clone, Copy, Debug, PartialEq, Eq)]
         pub enum Refusal {
-            $(#[doc = concat!(stringify!($number), ": ", $sentence, ".")] $name,)*
+            $(
+                #[doc = concat!(stringify!($number), ": ", $sentence, ".")]
+                $name $({
+                    /// The least listed N not below the one asked for, for that profile and those bits, or 0 if there is none.
+                    $size: u32,
+                })?,
+            )*
             /// A number that has no name here: of an archive that refuses for more reasons than this crate knows.
             Other(u32),
         }
 
         impl Refusal {
-            pub(crate) fn of(number: u32) -> Refusal {
+            // The refusal of a number; `fits` goes with the one that carries a size.
+            pub(crate) fn of(number: u32, fits: u32) -> Refusal {
                 match number {
-                    $($number => Refusal::$name,)*
+                    $($number => Refusal::$name $({ $size: fits })?,)*
                     other => Refusal::Other(other),
                 }
             }
@@ -22,14 +30,14 @@ macro_rules! refusals {
             /// The number that the calls for C give.
             pub fn number(self) -> u32 {
                 match self {
-                    $(Refusal::$name => $number,)*
+                    $(Refusal::$name { .. } => $number,)*
                     Refusal::Other(number) => number,
                 }
             }
 
             fn sentence(self) -> &'static str {
                 match self {
-                    $(Refusal::$name => $sentence,)*
+                    $(Refusal::$name { .. } => $sentence,)*
                     Refusal::Other(_) => "for a reason that has no name here",
                 }
             }
@@ -40,7 +48,7 @@ macro_rules! refusals {
 refusals! {
     1 Profile "no such profile, or the walk for M of profile 5 or 8"
     2 Bits "the bits aren't listed for the profile"
-    3 Size "N isn't listed for that profile and those bits"
+    3 Size { fits } "N isn't listed for that profile and those bits"
     4 Position "a position is N or more"
     5 Input "a block's input isn't N long, N times the width for symbols, or its presence bytes aren't N"
     6 Output "a block's output isn't N long, N times the width for symbols, or sums or counts aren't N, or a feed's output isn't as long as its input"
@@ -56,7 +64,12 @@ refusals! {
 
 impl std::fmt::Display for Refusal {
     fn fmt(&self, f: &mut std::fmt::Formatter) -> std::fmt::Result {
-        write!(f, "refused with {}: {}", self.number(), self.sentence())
+        write!(f, "refused with {}: {}", self.number(), self.sentence())?;
+        match self {
+            Refusal::Size { fits: 0 } => write!(f, "; none so large is"),
+            Refusal::Size { fits } => write!(f, "; the next that is: {fits}"),
+            _ => Ok(()),
+        }
     }
 }
 

@@ -1,6 +1,6 @@
 //! Repeated receptions of a block, added up and read.
 
-use super::{answer, raw, Refusal, Set};
+use super::{raw, Refusal, Set};
 
 /// What a position holds: the running sum of the values that it received, and how many they are.
 #[derive(Clone, Copy, Debug, PartialEq)]
@@ -17,7 +17,7 @@ impl Set {
     /// added with one rounding, and the count rises by one. Zero is a value. Before a first block every count is 0, and the sums may be any.
     pub fn add_received(&self, received: &[f32], present: &[u8], sums: &mut [f32], counts: &mut [u16]) -> Result<(), Refusal> {
         // SAFETY: the slices are live and do not overlap, and the call keeps no pointer.
-        answer(unsafe {
+        self.answer(unsafe {
             raw::interleaver_add_received(
                 self,
                 received.as_ptr(),
@@ -36,7 +36,7 @@ impl Set {
     pub fn read_sum(&self, sums: &[f32], counts: &[u16], position: u32) -> Result<Option<Running>, Refusal> {
         let mut held = Running { sum: 0.0, count: 0 };
         // SAFETY: both slices are live, and the numbers are this call's own.
-        answer(unsafe {
+        self.answer(unsafe {
             raw::interleaver_read_sum(self, sums.as_ptr(), sums.len(), counts.as_ptr(), counts.len(), position, &mut held.sum, &mut held.count)
         })?;
         Ok(Some(held).filter(|held| held.count != 0))

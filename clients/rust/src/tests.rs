@@ -19,6 +19,49 @@ fn a_set_is_tested() {
     assert_eq!(Set::new(3, 3, 192).unwrap_err().to_string(), "refused with 2: the bits aren't listed for the profile");
 }
 
+// The least of some sizes that is not below n.
+fn next_of(sizes: &[u32], n: u32) -> u32 {
+    sizes.iter().copied().find(|&size| size >= n).unwrap_or(0)
+}
+
+#[test]
+fn refusal_3_says_which_size_fits() {
+    let doubled: Vec<u32> = (0..5).map(|i| 24 << i).collect();
+    let halves: Vec<u32> = (1..=3).map(|i| 192 * i).collect();
+    let threes: Vec<u32> = (1..=32).map(|i| 48 * i).collect();
+    let lists = [(1, 2, doubled), (2, 4, halves), (3, 4, vec![192]), (4, 6, threes), (5, 1, (40..=5114).collect()), (6, 6, vec![312]), (7, 1, vec![108])];
+    for (profile, bits, sizes) in lists {
+        for n in (0..=6200).chain([65_536, u32::MAX]) {
+            match Set::new(profile, bits, n) {
+                Ok(set) => assert_eq!((set.size() as u32, sizes.contains(&n)), (n, true)),
+                refused => assert_eq!((refused, sizes.contains(&n)), (Err(Refusal::Size { fits: next_of(&sizes, n) }), false)),
+            }
+        }
+    }
+    let late = Set::new(3, 4, 192).unwrap().with_stream(9);
+    assert_eq!((late.test(), Set::new(3, 3, 100), Set::new(9, 4, 100)), (Err(Refusal::Stream), Err(Refusal::Bits), Err(Refusal::Profile)));
+    let said = [100, 193].map(|n| Set::new(3, 4, n).unwrap_err().to_string());
+    let sentence = "refused with 3: N isn't listed for that profile and those bits";
+    assert_eq!(said, [format!("{sentence}; the next that is: 192"), format!("{sentence}; none so large is")]);
+}
+
+// Each call on a set that is refused with 3 says the same; the walk for M of profile 5 is refused with 1 before that.
+#[test]
+fn every_call_hands_the_size_on() {
+    let set = Set { profile: 5, bits: 1, n: 39, stream: 1, factors: [0; 4] };
+    let (bytes, soft, mut out, mut sums, mut counts, mut list) = ([0u8; 39], [0f32; 39], [0u8; 39], [0f32; 39], [0u16; 39], [0u16; 39]);
+    let refused = Refusal::Size { fits: 40 };
+    assert_eq!((set.test(), set.source(0), set.target(0)), (Err(refused), Err(refused), Err(refused)));
+    assert_eq!((set.sources(), set.targets()), (Err(refused), Err(Refusal::Profile)));
+    assert_eq!(Walk::sources(set).fill(&mut list), Err(refused));
+    assert_eq!((set.interleave(&bytes, &mut out), set.deinterleave(&bytes, &mut out)), (Err(refused), Err(refused)));
+    assert_eq!((set.interleave_symbols(1, &bytes, &mut out), set.deinterleave_symbols(1, &bytes, &mut out)), (Err(refused), Err(refused)));
+    assert_eq!((set.interleave_soft(&soft, &mut sums), set.deinterleave_soft(&soft, &mut sums)), (Err(refused), Err(refused)));
+    assert_eq!(set.add_received(&soft, &bytes, &mut sums, &mut counts), Err(refused));
+    assert_eq!(set.read_sum(&sums, &counts, 0), Err(refused));
+    assert_eq!(lte::factors(39), Err(refused));
+}
+
 #[test]
 fn a_refusal_is_its_number() {
     assert_eq!(answer(0), Ok(()));

@@ -43,6 +43,9 @@ pub fn set(s: Set) {
 
 pub fn refused(x: Refusal) {
     number(b": refused ", x.number as u64);
+    if x.number == 3 {
+        number(b" ", x.size as u64);
+    }
 }
 
 // One address in a list.

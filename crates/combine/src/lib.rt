@@ -3,8 +3,8 @@
 // alone.
 use positions::Running;
 use sets::Refusal;
+use sets::Ruled;
 use sets::Set;
-use sets::Verdict;
 use tables::LARGE;
 use tables::MIDDLE;
 use tables::Moved;
@@ -114,9 +114,9 @@ fn reading_at(held: Running) -> Reading
 pub fn read(set: Set, sums: &[f32], counts: &[u16], position: u32) -> Reading
     ensures { λ r. ⌜ sayReading r ≡ readOf set (kept (now (sums .entry)) (now (counts .entry))) position ⌝ }
 {
-    match sets::test(set) {
-        Verdict::Refused(x) => Reading::Refused(x),
-        Verdict::Accepted => {
+    match sets::ruling_of(set) {
+        Ruled::Stopped(k) => Reading::Refused(sets::refusal_of(set, k)),
+        Ruled::Clear => {
             if position >= set.n {
                 return Reading::Refused(sets::refusal_of(set, 4));
             }

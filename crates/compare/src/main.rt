@@ -1,12 +1,13 @@
 // Compares every whole list with a second computation of it, which divides at each address and shares no function with the walk: all sets
 // of profiles 1 to 4, 6 and 7, every K of 5 and every K of 8 with LTE's own factors, whole and in slices; the test of f1 and f2 with trying all
-// positions, for every K of 8 up to 128; and for sixteen sets shorter slices, blocks of bytes and single addresses. Each
+// positions, for every K of 8 up to 128; the size that refusal 3 carries with going through all sizes; and for sixteen sets shorter slices, blocks of bytes and single addresses. Each
 // comparison is tried on a list that is wrong on purpose as well, and has to count differences there; every K on its list without the exchange of
 // full rectangles, to count the sizes that the exchange touches; the sets of 6 and 7 on their lists with no stream turned, to count those that
-// are; and those of 8 on their lists with t for t², and its test with f1 and f2 exchanged.
+// are; and those of 8 on their lists with t for t², and its test with f1 and f2 exchanged; the sizes that are carried, on the greatest listed ones below.
 mod chosen;
 mod count;
 mod decided;
+mod fitted;
 mod lists;
 mod moves;
 mod num;
@@ -110,6 +111,10 @@ fn main() {
         false,
     );
     let lte = sum(listed, pairs);
+    let fitting = fitted::show(
+        b"the size that refusal 3 carries against all sizes gone through, profiles 0 to 9, bits 0 to 7, N 0 to 6200",
+        false,
+    );
     let sixteen = sum(sixteen_walks(), sixteen_moves());
     lists::wrong_walk();
     wrong_block();
@@ -125,5 +130,7 @@ fn main() {
     );
     lists::wrong_square();
     decided::show(b"wrong on purpose, the test of f2 and f1", true);
-    count::last_line(sum(sum(sum(sum(carriers, turbos), spatials), lte), sixteen));
+    fitted::show(b"wrong on purpose, the greatest listed size below", true);
+    let lists = sum(sum(sum(carriers, turbos), spatials), lte);
+    count::last_line(sum(sum(lists, fitting), sixteen));
 }

@@ -1,4 +1,4 @@
-// A parameter set tested, LTE's own factors, one address, a list of addresses.
+// A parameter set tested, the size that would have fitted, LTE's own factors, one address, a list of addresses.
 use flat::FACTORS;
 use flat::SET;
 use laws::Way;
@@ -8,7 +8,7 @@ ghost use Rattle.laws.specs.declared.Way.the-variants.{Interleaver, Deinterleav
 ghost use Rattle.sets.specs.Verdict.{verdictOf};
 ghost use Rattle.lte.specs.Factors.{givenOf};
 ghost use Rattle.walks.specs.Answer.{sliceOf, foundOf, Values};
-ghost use Rattle.flat.specs.Flat.{setOf, walkOf, lentWalk, numberOf, outOf, factorsList};
+ghost use Rattle.flat.specs.Flat.{setOf, walkOf, lentWalk, numberOf, fittingOf, outOf, factorsList};
 
 // The test of a set. Refusals 1, 2, 3, 16, 11, 10.
 #[no_mangle]
@@ -16,6 +16,14 @@ pub extern "C" fn interleaver_test(set: &[u32; SET]) -> u32
     ensures { λ r. ⌜ r ≡ numberOf (verdictOf (setOf (now (set .entry)))) ⌝ }
 {
     flat::tested(sets::test(flat::set_of(set)))
+}
+
+// The size that refusal 3 of the set carries: the least listed N not below its own, or 0 if there is none. 0 where the set isn't refused with 3.
+#[no_mangle]
+pub extern "C" fn interleaver_fitting(set: &[u32; SET]) -> u32
+    ensures { λ r. ⌜ r ≡ fittingOf (verdictOf (setOf (now (set .entry)))) ⌝ }
+{
+    sets::verdict_size(flat::set_of(set))
 }
 
 // The factors of a K of LTE, 3GPP TS 36.212 table 5.1.3-3. Refusal 3.

@@ -27,7 +27,7 @@ fn send(way: Way, set: Set, width: u32, src: &[u8], dst: &mut [u8]) -> bool {
     match symbols::move_symbols(way, set, width, src, dst) {
         Moved::Done => write_out(dst),
         Moved::Refused(x) => {
-            refused(x.number);
+            refused(x.number, x.size);
             false
         }
     }
@@ -64,7 +64,7 @@ fn in_parts(way: Way, set: Set, width: u32, src: &mut [u8], dst: &mut [u8]) {
 // `interleave` and `deinterleave`, of symbols of 1 to 8 bytes.
 pub fn through(way: Way, set: Set, width: u32) {
     match sets::test(set) {
-        Verdict::Refused(x) => refused(x.number),
+        Verdict::Refused(x) => refused(x.number, x.size),
         Verdict::Accepted => {
             let mut src = io::large_buffer();
             let mut dst = io::large_buffer();

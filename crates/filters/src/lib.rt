@@ -9,8 +9,8 @@ use libc::STDIN_FILENO;
 use libc::STDOUT_FILENO;
 ghost use Rattle.io.specs.Counts.{Counts};
 
-fn refused(number: u32) {
-    words::text::say_line(STDERR_FILENO, b"refused ", number as u64);
+fn refused(number: u32, size: u32) {
+    words::text::say_refusal(STDERR_FILENO, number, size);
 }
 
 // Writes a part of the output. Answers whether it could.

@@ -23,7 +23,7 @@ fn send(way: Way, s: Stream, store: &mut [u8], input: &[u8], out: &mut [u8]) -> 
             Going::Stop
         }
         Fed::Refused(number) => {
-            refused(number);
+            refused(number, 0);
             Going::Stop
         }
     }
@@ -65,6 +65,6 @@ pub fn through(way: Way, fill: u8) {
     let mut out = io::large_buffer();
     match streams::start(&mut store, fill) {
         Started::Ready(s) => turns(way, s, &mut store, &mut room, &mut out),
-        Started::Refused(number) => refused(number),
+        Started::Refused(number) => refused(number, 0),
     }
 }

@@ -31,5 +31,6 @@ pub mod Euclid
 pub mod Split
 pub mod Shared
 pub mod Stepped
+pub mod Least
 pub mod Seek
 pub mod Told

@@ -1,4 +1,5 @@
-// A parameter set's verdict and its addresses, one answer a line; a refusal is the line `refused 3`.
+// A parameter set's verdict and its addresses, one answer a line; a refusal is a line such as `refused 1`, or with the size that would have fitted
+// `refused 3 192`.
 use super::LONGEST;
 use super::say;
 use super::say_number;
@@ -15,7 +16,7 @@ use walks::Walked;
 ghost use Prim.Native.Nat.{_≤_};
 
 pub fn refused(fd: i32, x: Refusal) {
-    words::text::say_line(fd, b"refused ", x.number as u64);
+    words::text::say_refusal(fd, x.number, x.size);
 }
 
 // The first n addresses of a slice, one a line.

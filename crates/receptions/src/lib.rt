@@ -5,6 +5,7 @@ use figures::VALUES;
 use figures::decimal::PLACES;
 use figures::decimal::spell_f32;
 use libc::STDOUT_FILENO;
+use sets::Refusal;
 use sets::Set;
 use sets::Verdict;
 use tables::LARGE;
@@ -17,8 +18,8 @@ use words::text::put_number;
 // The arguments before the files, but for named words: `combine`, PROFILE, BITS and N.
 pub const BEFORE: usize = 4;
 
-fn refused(number: u32) {
-    words::text::say_line(STDOUT_FILENO, b"refused ", number as u64);
+fn refused(x: Refusal) {
+    words::text::say_refusal(STDOUT_FILENO, x.number, x.size);
 }
 
 // Whether a reception was added, or else its refusal.
@@ -26,7 +27,7 @@ fn is_done(m: Moved) -> bool {
     match m {
         Moved::Done => true,
         Moved::Refused(x) => {
-            refused(x.number);
+            refused(x);
             false
         }
     }
@@ -179,7 +180,7 @@ pub fn in_form() -> bool {
 // `combine`, of the files that the arguments name.
 pub fn from_files(set: Set) {
     match sets::test(set) {
-        Verdict::Refused(x) => refused(x.number),
+        Verdict::Refused(x) => refused(x),
         Verdict::Accepted => {
             let mut sums = [0.0f32; LARGE];
             let mut counts = [0u16; LARGE];

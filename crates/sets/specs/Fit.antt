@@ -9,7 +9,7 @@ use Prim.Native.Nat.{_*_, _/_, _%_, _≤_, _<_}
 use native.Mathlib.Nat.{div-add-mod}
 use native.Mathlib.Omega.{arith}
 use lib.Dec.{leb, ltb, eqb}
-use borrow.Author.Tests.{leb-true, le-leb, ltb-true, eqb-true}
+use borrow.Author.Tests.{leb-true, le-leb, ltb-true, lt-ltb, eqb-true}
 use Rattle.laws.specs.Members.{both, every, at-each}
 use Rattle.laws.specs.Sized.{Sized}
 use Rattle.profiles.specs.declared.Family.{Family}
@@ -32,8 +32,7 @@ divides : Size → Bool
 divides z =
     let d = numbersBy (z .profile) .d in
     let g = groupBy (z .bits) in
-    ltb 0 d
-    && (ltb 0 g && (ltb 0 (z .n) && (eqb (z .n % (d * g)) 0 && (leb (z .n) 1536 && ltb (3 * (numbersBy (z .profile) .r * z .bits)) (z .n)))))
+    ltb 0 d && (ltb 0 g && (eqb (z .n % (d * g)) 0 && (leb (z .n) 1536 && ltb (3 * (numbersBy (z .profile) .r * z .bits)) (z .n))))
 
 -- by family
 fitBy : Family → Size → Bool
@@ -43,7 +42,7 @@ fitBy Turbo z = leb 40 (z .n) && leb (z .n) 5114
 fitBy Quadratic z = leb 40 (z .n) && (leb (z .n) 6144 && eqb (z .n % 8) 0)
 
 fit : Size → Bool
-fit z = fitBy (familyBy (z .profile)) z
+fit z = ltb 0 (z .n) && fitBy (familyBy (z .profile)) z
 
 carriers-fit : every fit (allSizes carriers) ≡ true
 unfolding fit fitBy divides entryBy
@@ -62,7 +61,7 @@ unfolding fit fitBy entryBy
 turbos-fit {z} m =
     let q = Memᴰ·of-map (size 5 1) turboSizes (simp append-nil at m) in
     let r = turbo-range (q .1) in
-    ap fit (sym (q .2)) ∙ simp (le-leb 40 (q .0) (r .0), le-leb (q .0) 5114 (r .1))
+    ap fit (sym (q .2)) ∙ simp (lt-ltb 0 (q .0) (omega (arith, r .0)), le-leb 40 (q .0) (r .0), le-leb (q .0) 5114 (r .1))
 
 listed-fit : {z : Size} → List·Memᴰ z listedSizes → fit z ≡ true
 unfolding listedSizes
@@ -73,19 +72,26 @@ listed-fit m =
     (either-all turbos (spatials ++ quadratics) m))
     (either-all carriers (turbos ++ (spatials ++ quadratics)) m)
 
-carried-by : (s : Set) → divides (sizeOf s) ≡ true → Carried s
+-- no N of them is 0, and by the family it is more
+fits-in : {z : Size} → List·Memᴰ z listedSizes → (ltb 0 (z .n) ≡ true) × (fitBy (familyBy (z .profile)) z ≡ true)
+unfolding fit
+fits-in {z} m = both (ltb 0 (z .n)) _ (listed-fit m)
+
+pub listed-pos : {z : Size} → List·Memᴰ z listedSizes → 0 < z .n
+listed-pos {z} m = ltb-true 0 (z .n) (fits-in m .0)
+
+carried-by : (s : Set) → 0 < s .n → divides (sizeOf s) ≡ true → Carried s
 unfolding divides numbersOf groupOf
-carried-by s e =
+carried-by s pos e =
     let p = both (ltb 0 (rowsOf s)) _ e in
     let q = both (ltb 0 (groupOf s)) _ (p .1) in
-    let r = both (ltb 0 (s .n)) _ (q .1) in
-    let t = both (eqb (s .n % (rowsOf s * groupOf s)) 0) _ (r .1) in
+    let t = both (eqb (s .n % (rowsOf s * groupOf s)) 0) _ (q .1) in
     let u = both (leb (s .n) 1536) _ (t .1) in
     record {
       sized = record {
         d-pos = ltb-true 0 (rowsOf s) (p .0);
         s-pos = ltb-true 0 (groupOf s) (q .0);
-        n-pos = ltb-true 0 (s .n) (r .0);
+        n-pos = pos;
         groups = s .n / (rowsOf s * groupOf s);
         whole = omega (arith, div-add-mod (s .n) (rowsOf s * groupOf s), eqb-true (s .n % (rowsOf s * groupOf s)) 0 (t .0));
       };
@@ -96,16 +102,16 @@ carried-by s e =
 -- what a set of a listed size is, by its family
 module _ (s : Set) (m : List·Memᴰ (sizeOf s) listedSizes) where
   fit-by : {f : Family} → familyOf s ≡ f → fitBy f (sizeOf s) ≡ true
-  unfolding familyOf fit
-  fit-by e = sym (ap (λ (f : Family). fitBy f (sizeOf s)) e) ∙ listed-fit m
+  unfolding familyOf
+  fit-by e = sym (ap (λ (f : Family). fitBy f (sizeOf s)) e) ∙ fits-in m .1
 
   pub carrier-fit : familyOf s ≡ Carrier → Carried s
   unfolding fitBy
-  carrier-fit e = carried-by s (fit-by e)
+  carrier-fit e = carried-by s (listed-pos m) (fit-by e)
 
   pub spatial-fit : familyOf s ≡ Spatial → Carried s
   unfolding fitBy
-  spatial-fit e = carried-by s (fit-by e)
+  spatial-fit e = carried-by s (listed-pos m) (fit-by e)
 
   pub turbo-fit : familyOf s ≡ Turbo → (40 ≤ s .n) × (s .n ≤ 5114)
   unfolding fitBy

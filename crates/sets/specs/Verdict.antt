@@ -1,17 +1,21 @@
 -- The test of a set: refusals 1, 2 and 3 of document 01, which are of its size, 16, which is of its stream (specs/Stream.antt), and then 11 and 10,
 -- which are of its factors (specs/Beside.antt).
 use Prim.Native.Nat.{ℕ}
-use mathlib.Core.Bool.{not}
+use mathlib.Core.Bool.{not, cond}
 use mathlib.Core.List.{List, [], _∷_, _++_}
 use mathlib.Core.Path.{_≡_, refl}
-use Rattle.laws.specs.Outcome.{Outcome, done, refused, apart, Line, line, judged}
+use lib.Dec.{eqb}
+use Rattle.laws.specs.Outcome.{Outcome, done, refused, apart, Line, line, Ruling, clear, stopped, first, settle, judged}
 use Rattle.sets.specs.declared.Set.{Set}
 use Rattle.sets.specs.declared.Refusal.{Refusal}
+use Rattle.sets.specs.declared.Ruled.{Ruled}
+use Rattle.sets.specs.declared.Ruled.the-variants.{Clear, Stopped}
 use Rattle.sets.specs.declared.Verdict.{Verdict}
 use Rattle.sets.specs.declared.Verdict.the-variants.{Accepted, Refused}
 use Rattle.sizes.specs.declared.Size.{Size}
 use Rattle.sets.specs.Set.{sizeOf}
 use Rattle.sizes.specs.Tests.{profileListed, bitsListed, sizeListed}
+use Rattle.sets.specs.Fitting.{fitting}
 use Rattle.sets.specs.Stream.{streamLines}
 use Rattle.sets.specs.Beside.{besideLines}
 
@@ -26,11 +30,15 @@ sizeLines z =
 unfoldable pub setLines : Set → List Line
 setLines s = sizeLines (sizeOf s) ++ (streamLines s ++ besideLines s)
 
--- what a refusal of a set carries: its number alone. It is given the set, so that more can be said of it in one place
+-- what a refusal of a set carries: its number, and with 3 the size that would have fitted, with every other number 0
 unfoldable pub refusal : Set → ℕ → Refusal
-refusal s k = record { number = k }
+refusal s k = record { number = k; size = cond (eqb k 3) (fitting (sizeOf s)) 0 }
 
--- what an answer says
+-- what answers say
+abbrev pub sayRuled : Ruled → Ruling
+sayRuled Clear = clear
+sayRuled (Stopped k) = stopped k
+
 abbrev pub sayVerdict : Verdict → Outcome Refusal (Unit {0})
 sayVerdict Accepted = done tt
 sayVerdict (Refused x) = refused x
@@ -38,6 +46,19 @@ sayVerdict (Refused x) = refused x
 -- what the test of a set has to say
 unfoldable pub verdictOf : Set → Outcome Refusal (Unit {0})
 verdictOf s = judged (refusal s) (setLines s) tt
+
+-- the size that its refusal carries; 0 where the set is accepted
+unfoldable pub verdictSize : Set → ℕ
+verdictSize s = settle (first (setLines s)) (λ k. refusal s k .size) 0
+
+-- which line applies first says all: where none does the set is accepted, else it is refused with that one's number
+pub clear-accepts : (s : Set) → first (setLines s) ≡ clear → verdictOf s ≡ done tt
+unfolding verdictOf
+clear-accepts s e = rw e refl
+
+pub stopped-refuses : (s : Set) {k : ℕ} → first (setLines s) ≡ stopped k → verdictOf s ≡ refused (refusal s k)
+unfolding verdictOf
+stopped-refuses s e = rw e refl
 
 -- a refusal's number is the one it was made of
 pub refusal-number : (s : Set) (k : ℕ) → refusal s k .number ≡ k

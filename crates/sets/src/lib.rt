@@ -4,10 +4,13 @@ ghost use Prim.Native.Nat.{_<_};
 ghost use Rattle.sets.specs.Set.{familyOf, isTurbo, isSpatial, isQuadratic, numbersOf, groupOf};
 ghost use Rattle.sets.specs.Stream.{streamListed};
 ghost use Rattle.sets.specs.Beside.{factorsIn, factorsApart, Testable};
-ghost use Rattle.sets.specs.Verdict.{refusal, sayVerdict, verdictOf};
+ghost use Rattle.laws.specs.Outcome.{first};
+ghost use Rattle.sets.specs.Verdict.{setLines, refusal, sayRuled, sayVerdict, verdictOf, verdictSize};
 use profiles::Family;
 use profiles::Numbers;
 use sizes::Size;
+
+mod fitting; // fitting.rt: the size that would have fitted
 
 // The numbers that a set has beside its size and stream. Profile 8 reads the first two, which are its f1 and f2; no other profile reads any.
 pub struct Factors {
@@ -27,9 +30,17 @@ pub struct Set {
     pub factors: Factors,
 }
 
-// What a refused call gives back: the number of document 01.
+// What a refused call gives back: the number of document 01; and with 3 the least listed N not below the one asked for, or 0 if there is none. With
+// every other number the size is 0.
 pub struct Refusal {
     pub number: u32,
+    pub size: u32,
+}
+
+// Which line of a set's test applies first, if one does: its number. What a refusal carries beside that is asked for where one is given.
+pub enum Ruled {
+    Clear,
+    Stopped(u32),
 }
 
 // The answer of the test of a set.
@@ -110,7 +121,13 @@ pub fn group_of(set: Set) -> u32
 pub fn refusal_of(set: Set, number: u32) -> Refusal
     ensures { λ r. ⌜ r ≡ refusal set number ⌝ }
 {
-    Refusal { number }
+    if number == 3 {
+        return Refusal {
+            number,
+            size: fitting::fitting_of(set.profile, set.bits, set.n),
+        };
+    }
+    Refusal { number, size: 0 }
 }
 
 // The stream is listed for the profile. Every profile has stream 1.
@@ -145,10 +162,9 @@ fn factors_apart(set: Set) -> bool
     quadratic::all_apart(set.n, set.factors.first, set.factors.second)
 }
 
-// The test of a parameter set: 1, 2, 3, 16, 11, 10, in that order, and nothing more. (`verdicts-apart` in specs/Verdict.antt: what is said leaves one
-// answer.)
-pub fn test(set: Set) -> Verdict
-    ensures { λ r. ⌜ sayVerdict r ≡ verdictOf set ⌝ }
+// Which line of the test applies first: 1, 2, 3, 16, 11, 10, in that order, and nothing more.
+pub fn ruling_of(set: Set) -> Ruled
+    ensures { λ r. ⌜ sayRuled r ≡ first (setLines set) ⌝ }
 {
     let size = Size {
         profile: set.profile,
@@ -156,22 +172,48 @@ pub fn test(set: Set) -> Verdict
         n: set.n,
     };
     if !sizes::profile_listed(size) {
-        return Verdict::Refused(refusal_of(set, 1));
+        return Ruled::Stopped(1);
     }
     if !sizes::bits_listed(size) {
-        return Verdict::Refused(refusal_of(set, 2));
+        return Ruled::Stopped(2);
     }
     if !sizes::size_listed(size) {
-        return Verdict::Refused(refusal_of(set, 3));
+        return Ruled::Stopped(3);
     }
     if !stream_listed(set) {
-        return Verdict::Refused(refusal_of(set, 16));
+        return Ruled::Stopped(16);
     }
     if !factors_in(set) {
-        return Verdict::Refused(refusal_of(set, 11));
+        return Ruled::Stopped(11);
     }
     if !factors_apart(set) {
-        return Verdict::Refused(refusal_of(set, 10));
+        return Ruled::Stopped(10);
     }
-    Verdict::Accepted
+    Ruled::Clear
+}
+
+// The test of a parameter set. (`verdicts-apart` in specs/Verdict.antt: what is said leaves one answer.)
+pub fn test(set: Set) -> Verdict
+    ensures { λ r. ⌜ sayVerdict r ≡ verdictOf set ⌝ }
+{
+    match ruling_of(set) {
+        Ruled::Clear => Verdict::Accepted,
+        Ruled::Stopped(k) => Verdict::Refused(refusal_of(set, k)),
+    }
+}
+
+// The size that its refusal carries; 0 where the set is accepted. (It asks for the size by itself: were `refusal_of` the only one to ask, the compiler would
+// make one function of the two, and each call on a set would be some twenty instructions dearer.)
+pub fn verdict_size(set: Set) -> u32
+    ensures { λ r. ⌜ r ≡ verdictSize set ⌝ }
+{
+    match ruling_of(set) {
+        Ruled::Clear => 0,
+        Ruled::Stopped(k) => {
+            if k == 3 {
+                return fitting::fitting_of(set.profile, set.bits, set.n);
+            }
+            0
+        }
+    }
 }

@@ -2,8 +2,8 @@
 // block is, is the caller's to say: N symbols, N times a width.
 use laws::Way;
 use sets::Refusal;
+use sets::Ruled;
 use sets::Set;
-use sets::Verdict;
 ghost use mathlib.Core.Path.{_≡_};
 ghost use Prim.Native.Nat.{_≤_};
 ghost use lib.ListN.{length};
@@ -36,9 +36,9 @@ pub fn size_of(set: Set) -> usize
 pub fn judge(set: Set, total: usize, input: usize, output: usize) -> Moved
     ensures { λ r. ⌜ sayMoved r ≡ movedOf set total input output ⌝ }
 {
-    match sets::test(set) {
-        Verdict::Refused(x) => Moved::Refused(x),
-        Verdict::Accepted => {
+    match sets::ruling_of(set) {
+        Ruled::Stopped(k) => Moved::Refused(sets::refusal_of(set, k)),
+        Ruled::Clear => {
             if input != total {
                 return Moved::Refused(sets::refusal_of(set, 5));
             }

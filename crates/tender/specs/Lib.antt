@@ -12,3 +12,4 @@ pub mod Combine
 pub mod Zero
 pub mod ZeroSums
 pub mod Stars
+pub mod Fits

@@ -15,8 +15,8 @@ ghost use Rattle.walks.specs.Passed.{onward};
 use laws::Leaf;
 use laws::Way;
 use sets::Refusal;
+use sets::Ruled;
 use sets::Set;
-use sets::Verdict;
 
 // A walk's record: a parameter set, and the next cell.
 pub struct Walk {
@@ -40,14 +40,14 @@ pub enum Found {
     Refused(Refusal),
 }
 
-// The refusal of a walk of a refused set: 1 where the walk is not had, before what the test of the set says.
-fn refused_walk(way: Way, set: Set, x: Refusal) -> Refusal
-    ensures { λ r. ⌜ r ≡ cond (barred way (familyOf set)) (refusal set 1) x ⌝ }
+// The refusal of a walk of a set whose test stops with a number: 1 where the walk is not had, before that.
+fn refused_walk(way: Way, set: Set, number: u32) -> Refusal
+    ensures { λ r. ⌜ r ≡ cond (barred way (familyOf set)) (refusal set 1) (refusal set number) ⌝ }
 {
     if leaves::is_barred(way, set) {
         return sets::refusal_of(set, 1);
     }
-    x
+    sets::refusal_of(set, number)
 }
 
 // A walk's answer from its leaf's: the refusal of the number, or the record that goes on.
@@ -77,10 +77,10 @@ pub fn walk_by(way: Way, w: Walk, out: &mut [u16]) -> Walked
     ensures answer { λ r. ⌜ sayWalked r ≡ walkedOf way w (length (now (out .entry))) ⌝ }
     ensures slice { λ r. ⌜ now (out .exit) ≡ sliceOf way w (now (out .entry)) ⌝ }
 {
-    let v = sets::test(w.set);
+    let v = sets::ruling_of(w.set);
     match v {
-        Verdict::Refused(x) => Walked::Refused(refused_walk(way, w.set, x)),
-        Verdict::Accepted => {
+        Ruled::Stopped(k) => Walked::Refused(refused_walk(way, w.set, k)),
+        Ruled::Clear => {
             let leaf = leaves::walk(way, w.set, w.cell as usize, out);
             finish_walk(w, leaf)
         }
@@ -107,10 +107,10 @@ pub fn walk_m(w: Walk, out: &mut [u16]) -> Walked
 pub fn address_by(way: Way, set: Set, x: u32) -> Found
     ensures { λ r. ⌜ sayFound r ≡ foundOf way set x ⌝ }
 {
-    let v = sets::test(set);
+    let v = sets::ruling_of(set);
     match v {
-        Verdict::Refused(x) => Found::Refused(x),
-        Verdict::Accepted => {
+        Ruled::Stopped(k) => Found::Refused(sets::refusal_of(set, k)),
+        Ruled::Clear => {
             if x >= set.n {
                 return Found::Refused(sets::refusal_of(set, 4));
             }

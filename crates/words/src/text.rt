@@ -63,3 +63,12 @@ pub fn say_line(fd: i32, words: &[u8], n: u64) {
     say(fd, words, n);
     write(fd, b"\n");
 }
+
+// Writes the line of a refusal: its number, and behind 3 the size that would have fitted, which is 0 where there is none.
+pub fn say_refusal(fd: i32, number: u32, size: u32) {
+    if number == 3 {
+        say_line(fd, b"refused 3 ", size as u64);
+    } else {
+        say_line(fd, b"refused ", number as u64);
+    }
+}

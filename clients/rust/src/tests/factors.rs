@@ -98,7 +98,11 @@ fn the_standards_own() {
                 let set = Set::lte(k, f1, f2).unwrap();
                 assert_eq!((sizes.contains(&k), set.sources()), (true, Ok(list(set))));
             }
-            refused => assert_eq!((sizes.contains(&k), refused, Set::lte(k, 3, 10)), (false, Err(Refusal::Size), Err(Refusal::Size))),
+            refused => {
+                let fits = super::next_of(&sizes, k);
+                assert!(!sizes.contains(&k));
+                assert_eq!((refused, Set::lte(k, 3, 10)), (Err(Refusal::Size { fits }), Err(Refusal::Size { fits })));
+            }
         }
     }
     let rows = [(40, (3, 10)), (48, (7, 12)), (504, (55, 84)), (512, (31, 64)), (528, (17, 66)), (1024, (31, 64)), (1056, (17, 66))];

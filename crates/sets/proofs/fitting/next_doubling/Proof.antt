@@ -1,0 +1,63 @@
+-- `sets::fitting::next_doubling` goes through the five numbers from the least on.
+use Prim.Native.Nat.{ℕ, _*_, _≤_, _<_}
+use mathlib.Core.Path.{_≡_, sym, subst}
+use native.Mathlib.Omega.{arith}
+use borrow.Author.Needs.{needs}
+use borrow.Author.Tests.{le-leb, lt-leb}
+use Rattle.profiles.specs.Profiles.{doubles}
+use Rattle.sets.specs.Next.{Next, doubling, firstFrom, next-double}
+use Rattle.sets.proofs.fitting.next_doubling.Statement.{statement}
+use Rattle.sets.proofs.fitting.next_doubling.Tie as tie
+
+found : (u n r : ℕ) → 0 < u → firstFrom n (doubles u) ≡ r → Next (doubling u) n r
+found u n r pos e = rw (← e) (next-double u n pos)
+
+returns : tie.Need-returns
+returns c = found _ _ _ (c .before .pre .0) (simp (le-leb _ _ (c .if1 .taken)))
+
+returns-2 : tie.Need-returns-2
+returns-2 c = found _ _ _ (c .before .before .pre .0) (simp (lt-leb _ _ (c .before .if1 .left), le-leb _ _ (c .if2 .taken)))
+
+returns-3 : tie.Need-returns-3
+returns-3 c =
+    let e = c .before .before in
+    found _ _ _ (e .before .pre .0) (simp (lt-leb _ _ (e .if1 .left), lt-leb _ _ (c .before .if2 .left), le-leb _ _ (c .if3 .taken)))
+
+returns-4 : tie.Need-returns-4
+returns-4 c =
+    let d = c .before .before in
+    let e = d .before in
+    found _ _ _ (e .before .pre .0)
+    (simp (lt-leb _ _ (e .if1 .left), lt-leb _ _ (d .if2 .left), lt-leb _ _ (c .before .if3 .left), le-leb _ _ (c .if4 .taken)))
+
+returns-5 : tie.Need-returns-5
+returns-5 c =
+    let d = c .before .before .before in
+    let e = d .before in
+    found _ _ _ (e .before .pre .0)
+    (simp (
+      lt-leb _ _ (e .if1 .left),
+      lt-leb _ _ (d .if2 .left),
+      lt-leb _ _ (c .before .before .if3 .left),
+      lt-leb _ _ (c .before .if4 .left),
+      le-leb _ _ (c .if5 .taken),
+    ))
+
+returns-6 : tie.Need-returns-6
+returns-6 c =
+    let d = c .before .before .before in
+    let e = d .before in
+    found _ _ _ (e .before .pre .0)
+    (simp (
+      lt-leb _ _ (e .if1 .left),
+      lt-leb _ _ (d .if2 .left),
+      lt-leb _ _ (c .before .before .if3 .left),
+      lt-leb _ _ (c .before .if4 .left),
+      lt-leb _ _ (c .if5 .left),
+    ))
+
+pub next-doubling-spec : {M : Type 1} → statement M
+next-doubling-spec =
+    tie.close
+    (tie.spec returns (λ c. search needs) (λ c. search needs) returns-2 (λ c. search needs) (λ c. search needs) returns-3 (λ c. search needs)
+    (λ c. search needs) returns-4 (λ c. search needs) (λ c. search needs) returns-5 returns-6)

@@ -1,0 +1,111 @@
+-- `sets::ruling_of` says which line applies first: each return by the tests that led there.
+use mathlib.Core.Bool.{Bool, true, false, not}
+use mathlib.Core.Path.{_≡_, _∙_, sym}
+use borrow.Author.Needs.{needs}
+use borrow.Author.Tests.{not-true, not-false}
+use Rattle.sizes.specs.Tests.{profileListed, bitsListed, sizeListed}
+use Rattle.sizes.specs.Listed.{bits-small}
+use Rattle.sets.specs.declared.Set.{Set}
+use Rattle.sets.specs.Set.{sizeOf}
+use Rattle.sets.specs.Stream.{streamListed}
+use Rattle.sets.specs.Beside.{factorsIn, testable}
+use Rattle.sets.specs.Verdict.{setLines}
+use Rattle.sets.specs.Admits.{passing-listed}
+use Rattle.sets.proofs.ruling_of.Statement.{statement}
+use Rattle.sets.proofs.ruling_of.Tie as tie
+
+-- a test in the code and the test that it is
+fails : {r t : Bool} → r ≡ t → not r ≡ true → t ≡ false
+fails {r} e q = sym e ∙ not-true r q
+
+passes : {r t : Bool} → r ≡ t → not r ≡ false → t ≡ true
+passes {r} e q = sym e ∙ not-false r q
+
+-- what has passed, test by test
+profile-passed : (e : tie.Else1) → profileListed (sizeOf (e .before .before .args .set)) ≡ true
+profile-passed e = passes (e .before .profile-listed .ensures) (e .if1 .left)
+
+bits-passed : (e : tie.Else2) → bitsListed (sizeOf (e .before .before .before .before .args .set)) ≡ true
+bits-passed e = passes (e .before .bits-listed .ensures) (e .if2 .left)
+
+size-passed : (e : tie.Else3) → sizeListed (sizeOf (e .before .before .before .before .before .before .args .set)) ≡ true
+size-passed e = passes (e .before .size-listed .ensures) (e .if3 .left)
+
+abbrev asked : tie.Else4 → Set
+asked e = e .before .before .before .before .before .before .before .before .args .set
+
+stream-passed : (e : tie.Else4) → streamListed (asked e) ≡ true
+stream-passed e = passes (e .before .stream-listed .ensures) (e .if4 .left)
+
+factors-passed : (e : tie.Else5) → factorsIn (asked (e .before .before)) ≡ true
+factors-passed e = passes (e .before .factors-in .ensures) (e .if5 .left)
+
+-- the first four
+listed : (e : tie.Else4)
+    → (profileListed (sizeOf (asked e)) ≡ true) × (bitsListed (sizeOf (asked e)) ≡ true) × (sizeListed (sizeOf (asked e)) ≡ true)
+listed e =
+    let d = e .before .before in
+    (profile-passed (d .before .before .before .before), bits-passed (d .before .before), size-passed d)
+
+returns : tie.Need-returns
+unfolding setLines
+returns c = simp (fails (c .before .profile-listed .ensures) (c .if1 .taken))
+
+returns-2 : tie.Need-returns-2
+unfolding setLines
+returns-2 c = simp (profile-passed (c .before .before), fails (c .before .bits-listed .ensures) (c .if2 .taken))
+
+size-listed-requires : tie.Need-size-listed-requires
+size-listed-requires c κs = bits-small _ (bits-passed c)
+
+returns-3 : tie.Need-returns-3
+unfolding setLines
+returns-3 c =
+    let e = c .before .before in
+    simp (profile-passed (e .before .before), bits-passed e, fails (c .before .size-listed .ensures) (c .if3 .taken))
+
+returns-4 : tie.Need-returns-4
+unfolding setLines
+returns-4 c =
+    let e = c .before .before in
+    simp (
+      profile-passed (e .before .before .before .before),
+      bits-passed (e .before .before),
+      size-passed e,
+      fails (c .before .stream-listed .ensures) (c .if4 .taken),
+    )
+
+returns-5 : tie.Need-returns-5
+unfolding setLines
+returns-5 c =
+    let e = c .before .before in
+    let l = listed e in
+    simp (l .0, l .1, l .2, stream-passed e, fails (c .before .factors-in .ensures) (c .if5 .taken))
+
+factors-apart-requires : tie.Need-factors-apart-requires
+factors-apart-requires c κs =
+    let e = c .before .before in
+    let l = listed e in
+    testable (asked e) (passing-listed (sizeOf (asked e)) (l .0) (l .1) (l .2)) (factors-passed c)
+
+returns-6 : tie.Need-returns-6
+unfolding setLines
+returns-6 c =
+    let i = c .before .before in
+    let e = i .before .before in
+    let l = listed e in
+    simp (l .0, l .1, l .2, stream-passed e, factors-passed i, fails (c .before .factors-apart .ensures) (c .if6 .taken))
+
+returns-7 : tie.Need-returns-7
+unfolding setLines
+returns-7 c =
+    let i = c .before .before in
+    let e = i .before .before in
+    let l = listed e in
+    simp (l .0, l .1, l .2, stream-passed e, factors-passed i, passes (c .before .factors-apart .ensures) (c .if6 .left))
+
+pub ruling-of-spec : {M : Type 1} → statement M
+ruling-of-spec =
+    tie.close
+    (tie.spec (λ c κs. search needs) returns (λ c κs. search needs) returns-2 size-listed-requires returns-3 (λ c κs. search needs) returns-4
+    (λ c κs. search needs) returns-5 factors-apart-requires returns-6 returns-7)

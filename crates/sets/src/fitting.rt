@@ -1,0 +1,129 @@
+// The size that would have fitted: the least listed N not below the one asked for, worked out by the form of the profile's sizes. None is looked for:
+// multiples are rounded up, of five doublings the next is taken, a range has its ends.
+use profiles::Form;
+use profiles::admitted_by;
+use profiles::group_by;
+use profiles::step_by;
+use sizes::Size;
+ghost use mathlib.Core.Bool.{true};
+ghost use mathlib.Core.Path.{_≡_};
+ghost use Prim.Native.Nat.{max, _<_};
+ghost use Rattle.laws.specs.Members.{multiple};
+ghost use Rattle.sizes.specs.Size.{size};
+ghost use Rattle.sizes.specs.Tests.{profileListed, bitsListed};
+ghost use Rattle.sets.specs.Fitting.{fitting};
+ghost use Rattle.sets.specs.Next.{Next, single, doubling, range, tiered};
+
+// The greater of two numbers.
+fn at_least(n: u32, u: u32) -> u32
+    ensures { λ r. ⌜ r ≡ max n u ⌝ }
+{
+    if n < u {
+        return u;
+    }
+    n
+}
+
+// N is u alone.
+fn next_single(u: u32, n: u32) -> u32
+    requires { ⌜ 0 < u ⌝ }
+    ensures { λ r. ⌜ Next (single u) n r ⌝ }
+{
+    if n <= u {
+        return u;
+    }
+    0
+}
+
+// u, or twice, four, eight, sixteen times as much.
+fn next_doubling(u: u32, n: u32) -> u32
+    requires { ⌜ (0 < u) × (u < 65536) ⌝ }
+    ensures { λ r. ⌜ Next (doubling u) n r ⌝ }
+{
+    if n <= u {
+        return u;
+    }
+    if n <= 2 * u {
+        return 2 * u;
+    }
+    if n <= 4 * u {
+        return 4 * u;
+    }
+    if n <= 8 * u {
+        return 8 * u;
+    }
+    if n <= 16 * u {
+        return 16 * u;
+    }
+    0
+}
+
+// A positive multiple of u, at most m.
+fn next_multiple(u: u32, m: u32, n: u32) -> u32
+    requires { ⌜ (0 < u) × (u < 65536) × (m < 65536) ⌝ }
+    ensures { λ r. ⌜ Next (multiple u m) n r ⌝ }
+{
+    if n > m {
+        return 0;
+    }
+    let up = (at_least(n, 1) + (u - 1)) / u * u;
+    if up > m {
+        return 0;
+    }
+    up
+}
+
+// From u to m.
+fn next_in_range(u: u32, m: u32, n: u32) -> u32
+    requires { ⌜ 0 < u ⌝ }
+    ensures { λ r. ⌜ Next (range u m) n r ⌝ }
+{
+    let first = at_least(n, u);
+    if first > m {
+        return 0;
+    }
+    first
+}
+
+// From u to m, by the steps of LTE's sizes.
+fn next_tiered(u: u32, m: u32, n: u32) -> u32
+    requires { ⌜ (0 < u) × (m < 65536) ⌝ }
+    ensures { λ r. ⌜ Next (tiered u m) n r ⌝ }
+{
+    let first = at_least(n, u);
+    next_multiple(step_by(first), m, first)
+}
+
+// For listed bits of a listed profile, so that no product wraps.
+fn next_listed(size: Size) -> u32
+    requires { ⌜ (profileListed size ≡ true) × (bitsListed size ≡ true) ⌝ }
+    ensures { λ r. ⌜ r ≡ fitting size ⌝ }
+{
+    let b = size.bits;
+    let n = size.n;
+    let a = admitted_by(size.profile);
+    let u = a.unit * b;
+    let form = a.form;
+    match form {
+        Form::Only => next_single(u, n),
+        Form::Doubled => next_doubling(u, n),
+        Form::Multiple => next_multiple(u, a.limit, n),
+        Form::Grouped => next_multiple(a.unit * group_by(b), a.limit, n),
+        Form::Range => next_in_range(a.unit, a.limit, n),
+        Form::Tiered => next_tiered(a.unit, a.limit, n),
+    }
+}
+
+// For any numbers. Where the profile or the bits aren't listed, no N is. (Given as numbers, since a struct would be copied by whoever may have to ask.)
+pub(super) fn fitting_of(profile: u32, bits: u32, n: u32) -> u32
+    ensures { λ r. ⌜ r ≡ fitting (size profile bits n) ⌝ }
+{
+    let size = Size { profile, bits, n };
+    if !sizes::profile_listed(size) {
+        return 0;
+    }
+    if !sizes::bits_listed(size) {
+        return 0;
+    }
+    next_listed(size)
+}
