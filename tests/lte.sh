@@ -28,7 +28,8 @@ $(awk 'BEGIN { for (k = 1; k <= 6200; k++) print "test 8 1", k }')
 END
 awk 'BEGIN { for (k = 1; k <= 6200; k++) {
     s = k <= 512 ? 8 : k <= 1024 ? 16 : k <= 2048 ? 32 : 64
-    print(k >= 40 && k <= 6144 && k % s == 0 ? "accepted" : "refused 3")
+    next_k = k <= 40 ? 40 : k > 6144 ? 0 : k + (s - k % s) % s
+    print(next_k == k ? "accepted" : "refused 3 " next_k)
 } }' | cmp -s - "$work/got"
 expect 'the sizes of profile 8' $?
 [ "$(grep -c accepted "$work/got")" -eq 188 ]

@@ -24,18 +24,18 @@ fn at_least(n: u32, u: u32) -> u32
     n
 }
 
-// N is u alone.
+// The next size of each form: the least that is not below n, or 0 if there is none. Here the only one, u.
 fn next_single(u: u32, n: u32) -> u32
     requires { ⌜ 0 < u ⌝ }
     ensures { λ r. ⌜ Next (single u) n r ⌝ }
 {
-    if n <= u {
-        return u;
+    if u < n {
+        return 0;
     }
-    0
+    u
 }
 
-// u, or twice, four, eight, sixteen times as much.
+// Of u and twice, four, eight and sixteen times as much.
 fn next_doubling(u: u32, n: u32) -> u32
     requires { ⌜ (0 < u) × (u < 65536) ⌝ }
     ensures { λ r. ⌜ Next (doubling u) n r ⌝ }
@@ -58,7 +58,7 @@ fn next_doubling(u: u32, n: u32) -> u32
     0
 }
 
-// A positive multiple of u, at most m.
+// Of the multiples of u from u to m.
 fn next_multiple(u: u32, m: u32, n: u32) -> u32
     requires { ⌜ (0 < u) × (u < 65536) × (m < 65536) ⌝ }
     ensures { λ r. ⌜ Next (multiple u m) n r ⌝ }
@@ -73,7 +73,7 @@ fn next_multiple(u: u32, m: u32, n: u32) -> u32
     up
 }
 
-// From u to m.
+// Of the numbers from u to m.
 fn next_in_range(u: u32, m: u32, n: u32) -> u32
     requires { ⌜ 0 < u ⌝ }
     ensures { λ r. ⌜ Next (range u m) n r ⌝ }
@@ -85,7 +85,7 @@ fn next_in_range(u: u32, m: u32, n: u32) -> u32
     first
 }
 
-// From u to m, by the steps of LTE's sizes.
+// Of those that LTE's steps lead to.
 fn next_tiered(u: u32, m: u32, n: u32) -> u32
     requires { ⌜ (0 < u) × (m < 65536) ⌝ }
     ensures { λ r. ⌜ Next (tiered u m) n r ⌝ }
@@ -94,7 +94,7 @@ fn next_tiered(u: u32, m: u32, n: u32) -> u32
     next_multiple(step_by(first), m, first)
 }
 
-// For listed bits of a listed profile, so that no product wraps.
+// By the profile's form. The bits are listed, so that no product wraps.
 fn next_listed(size: Size) -> u32
     requires { ⌜ (profileListed size ≡ true) × (bitsListed size ≡ true) ⌝ }
     ensures { λ r. ⌜ r ≡ fitting size ⌝ }
@@ -114,7 +114,7 @@ fn next_listed(size: Size) -> u32
     }
 }
 
-// For any numbers. Where the profile or the bits aren't listed, no N is. (Given as numbers, since a struct would be copied by whoever may have to ask.)
+// Of any numbers. Where the profile or the bits aren't listed, no N is. (They are no struct, which whoever may have to ask would copy.)
 pub(super) fn fitting_of(profile: u32, bits: u32, n: u32) -> u32
     ensures { λ r. ⌜ r ≡ fitting (size profile bits n) ⌝ }
 {

@@ -1,8 +1,9 @@
 -- Change request 8: refusal 3 says which size would have fitted, and every call on a set hands it on.
 use Prim.Native.Nat.{ℕ}
 use mathlib.Core.Path.{_≡_, refl}
+use native.Mathlib.Omega.{arith}
 use Rattle.laws.specs.declared.Way.{Way}
-use Rattle.laws.specs.Outcome.{Outcome, refused}
+use Rattle.laws.specs.Outcome.{Outcome, done, refused}
 use Rattle.sizes.specs.Tests.{listedSizes}
 use Rattle.profiles.specs.Profiles.{turboSizes, lteSizes}
 use Rattle.sets.specs.declared.Set.{Set}
@@ -18,6 +19,7 @@ use Rattle.families.specs.Rules.{ruleIn}
 use Rattle.tables.specs.Answer.{blockLines, movedOf}
 use Rattle.positions.specs.Heard.{Reception, Kept, held}
 use Rattle.combine.specs.Answer.{addLines, addedOf, readLines, readOf, toldOf}
+use Rattle.flat.specs.Flat.{numberOf, fittingOf}
 use Rattle.tender.specs.Stars.{wlan}
 
 -- with 3 the least listed N not below the one asked for, for that profile and those bits, or 0 if there is none: it is listed, not below, and nothing
@@ -51,6 +53,15 @@ fits-handed-on s = (
 pub fits-handed-on-factors : (k : ℕ) → HandsOn (lteSet k) (givenOf k)
 unfolding givenOf
 fits-handed-on-factors k = handed-on (lteSet k) (givenLines k) (standardFactors k)
+
+-- so has what C is given: the size that the number 3 carries, and 0 with any other and where the set is accepted
+pub fits-for-c : (s : Set)
+    → (numberOf (verdictOf s) ≡ 3 → Fitted s (fittingOf (verdictOf s))) × ((numberOf (verdictOf s) ≡ 3 → ⊥) → fittingOf (verdictOf s) ≡ 0)
+fits-for-c s = go (verdictOf s) (fits-handed-on s .0)
+  where
+    go : (o : Outcome Refusal (Unit {0})) → HandsOn s o → (numberOf o ≡ 3 → Fitted s (fittingOf o)) × ((numberOf o ≡ 3 → ⊥) → fittingOf o ≡ 0)
+    go (done u) h = (λ e. absurd (omega (arith, e)), λ e. refl)
+    go (refused x) h = h x refl
 
 -- where N is listed it fits itself; and the test doesn't say 3, so that no one is told so
 pub fits-itself : (s : Set) → Lists s (s .n) → (refusal s 3 .size ≡ s .n) × ((x : Refusal) → verdictOf s ≡ refused x → x .number ≡ 3 → ⊥)
