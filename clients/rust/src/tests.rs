@@ -45,23 +45,6 @@ fn refusal_3_says_which_size_fits() {
     assert_eq!(said, [format!("{sentence}; the next that is: 192"), format!("{sentence}; none so large is")]);
 }
 
-// Each call on a set that is refused with 3 says the same; the walk for M of profile 5 is refused with 1 before that.
-#[test]
-fn every_call_hands_the_size_on() {
-    let set = Set { profile: 5, bits: 1, n: 39, stream: 1, factors: [0; 4] };
-    let (bytes, soft, mut out, mut sums, mut counts, mut list) = ([0u8; 39], [0f32; 39], [0u8; 39], [0f32; 39], [0u16; 39], [0u16; 39]);
-    let refused = Refusal::Size { fits: 40 };
-    assert_eq!((set.test(), set.source(0), set.target(0)), (Err(refused), Err(refused), Err(refused)));
-    assert_eq!((set.sources(), set.targets()), (Err(refused), Err(Refusal::Profile)));
-    assert_eq!(Walk::sources(set).fill(&mut list), Err(refused));
-    assert_eq!((set.interleave(&bytes, &mut out), set.deinterleave(&bytes, &mut out)), (Err(refused), Err(refused)));
-    assert_eq!((set.interleave_symbols(1, &bytes, &mut out), set.deinterleave_symbols(1, &bytes, &mut out)), (Err(refused), Err(refused)));
-    assert_eq!((set.interleave_soft(&soft, &mut sums), set.deinterleave_soft(&soft, &mut sums)), (Err(refused), Err(refused)));
-    assert_eq!(set.add_received(&soft, &bytes, &mut sums, &mut counts), Err(refused));
-    assert_eq!(set.read_sum(&sums, &counts, 0), Err(refused));
-    assert_eq!(lte::factors(39), Err(refused));
-}
-
 #[test]
 fn a_refusal_is_its_number() {
     assert_eq!(answer(0), Ok(()));
