@@ -1,9 +1,7 @@
 -- The size that the test of a set gives is that of what it says. Rests on Flat.
-use Prim.Native.Nat.{ℕ}
 use mathlib.Core.Path.{_≡_, refl}
 use Rattle.laws.specs.Outcome.{done, refused, Ruling, clear, stopped, first, settle}
 use Rattle.sets.specs.declared.Set.{Set}
-use Rattle.sets.specs.declared.Refusal.{Refusal}
 use Rattle.sets.specs.Verdict.{setLines, refusal, verdictOf, verdictSize}
 use Rattle.flat.specs.Flat.{fittingOf}
 

@@ -1,12 +1,11 @@
 -- What the size that would have fitted is, by the listed sizes; and what the code goes by: for listed bits of a listed profile it is the least N from the
 -- one asked for on that passes the test of sizes, and for any others 0. Rests on Fitting, Fit and Admits.
-use Prim.Native.Nat.{ℕ, _≤_, _<_}
-use mathlib.Core.Bool.{Bool, true, false, not, _&&_, true≢false}
+use Prim.Native.Nat.{ℕ, _<_}
+use mathlib.Core.Bool.{true}
 use mathlib.Core.List.{List·Memᴰ, Memᴰ·map, Memᴰ·of-map, Memᴰ·cast}
 use mathlib.Core.Logic.{_↔_}
 use mathlib.Core.Path.{_≡_, refl, sym, _∙_}
 use lib.Dec.{ltb, eqb}
-use native.Mathlib.Omega.{arith}
 use borrow.Author.Tests.{ltb-true, eqb-true, eq-eqb}
 use Rattle.laws.specs.Members.{both, at-each}
 use Rattle.laws.specs.Least.{those, in-those, of-those, LeastFrom, one-least, least-same, least-none, least-those}

@@ -1,7 +1,7 @@
 -- What a refusal of a set carries, change request 8: with 3 the size that would have fitted, with every other number 0; and that whatever judges a set by
 -- lines hands it on. Where N is listed the size is N itself, and 3 is not said. Rests on Fits.
 use Prim.Native.Nat.{ℕ, _≤_, _<_}
-use mathlib.Core.List.{List, _++_, List·Memᴰ}
+use mathlib.Core.List.{List, _++_}
 use mathlib.Core.Logic.{_↔_}
 use mathlib.Core.Path.{_≡_, refl, sym, ap, _∙_, subst}
 use native.Mathlib.Omega.{arith}
@@ -9,7 +9,6 @@ use borrow.Author.Tests.{ne-eqb}
 use Rattle.laws.specs.Outcome.{refused, Line, Ruling, settle, done, clear-first, clear-then, judged, refused-first}
 use Rattle.laws.specs.Unsaid.{among, unsaid}
 use Rattle.laws.specs.Least.{LeastFrom, least-none}
-use Rattle.sizes.specs.Tests.{listedSizes}
 use Rattle.sets.specs.declared.Set.{Set}
 use Rattle.sets.specs.declared.Refusal.{Refusal}
 use Rattle.sets.specs.Set.{sizeOf}

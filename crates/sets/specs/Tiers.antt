@@ -1,11 +1,11 @@
 -- The next size of LTE: N, or the first one asked for, rounded up by its own step. Each step divides those behind it, so no size of a later tier is
 -- passed over, and a tier ends at a size, so what is rounded up stays in its tier. Rests on Next.
 use Prim.Native.Nat.{ℕ, max, _%_, _≤_, _<_}
-use mathlib.Core.Bool.{Bool, true, false, cond, _&&_}
+use mathlib.Core.Bool.{Bool, true, false, cond}
 use mathlib.Core.Path.{_≡_, refl}
 use native.Mathlib.Omega.{arith}
-use lib.Dec.{leb, eqb}
-use borrow.Author.Tests.{leb-true, leb-false, le-leb, eqb-true, eq-eqb, lt-ltb}
+use lib.Dec.{leb}
+use borrow.Author.Tests.{leb-true, leb-false, le-leb, eqb-true, lt-ltb}
 use Rattle.laws.specs.Members.{both, multiple}
 use Rattle.profiles.specs.Profiles.{stepBy}
 use Rattle.sets.specs.Next.{Next, tiered, multiple-is}

@@ -1,5 +1,4 @@
 -- `sets::refusal_of` makes the refusal of a set: with 3 the size that would have fitted.
-use mathlib.Core.Path.{_≡_, refl, sym, ap, _∙_}
 use borrow.Author.Needs.{needs}
 use borrow.Author.Tests.{ne-eqb}
 use Rattle.sets.specs.Verdict.{refusal}

@@ -1,11 +1,8 @@
 -- `sets::fitting::next_listed` is the next size of the profile's form, which is the one that fits.
 use Prim.Native.Nat.{ℕ, _*_, _<_}
-use mathlib.Core.Path.{sym}
 use native.Mathlib.Omega.{arith}
 use borrow.Author.Needs.{needs}
-use Rattle.laws.specs.Members.{multiple}
 use Rattle.sizes.specs.Listed.{bits-small, unit-times}
-use Rattle.sets.specs.Next.{Next}
 use Rattle.sets.specs.Fits.{fitting-by, unit-pos, limit-small}
 use Rattle.sets.proofs.fitting.next_listed.Statement.{statement}
 use Rattle.sets.proofs.fitting.next_listed.Tie as tie

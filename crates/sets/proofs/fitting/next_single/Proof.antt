@@ -5,10 +5,10 @@ use Rattle.sets.proofs.fitting.next_single.Statement.{statement}
 use Rattle.sets.proofs.fitting.next_single.Tie as tie
 
 returns : tie.Need-returns
-returns c = none-single _ _ (c .if1 .taken)
+returns c = none-single _ _ (omega (arith, c .if1 .taken))
 
 returns-2 : tie.Need-returns-2
-returns-2 c = next-single _ _ (c .before .pre) (c .if1 .left)
+returns-2 c = next-single _ _ (c .before .pre) (omega (arith, c .if1 .left))
 
 pub next-single-spec : {M : Type 1} → statement M
 next-single-spec = tie.close (tie.spec returns returns-2)

@@ -1,9 +1,6 @@
 -- `sets::fitting::next_tiered` rounds the first number asked for up by its own step.
-use Prim.Native.Nat.{ℕ}
-use mathlib.Core.Path.{ap, _∙_}
 use native.Mathlib.Omega.{arith}
 use borrow.Author.Needs.{needs}
-use Rattle.profiles.specs.Profiles.{stepBy}
 use Rattle.sets.specs.Tiers.{step-small, next-tiered}
 use Rattle.sets.proofs.fitting.next_tiered.Statement.{statement}
 use Rattle.sets.proofs.fitting.next_tiered.Tie as tie
