@@ -1,7 +1,7 @@
 -- Tables: what one computed test shows of every entry holds of each member; lists one after the other, and what stands in them; and tests of a number
 -- that say it is on a list.
 use mathlib.Core.Path.{_≡_, refl, sym, ap, _∙_, subst}
-use mathlib.Core.Bool.{Bool, true, false, _&&_, _||_, false≢true}
+use mathlib.Core.Bool.{Bool, true, false, not, _&&_, _||_, false≢true}
 use mathlib.Core.Logic.{⊎-elim}
 use mathlib.Core.List.{List, [], _∷_, _++_, List·Memᴰ, List·Memᴰ·head, List·Memᴰ·tail, List·Memᴰ·cases-cons, List·Memᴰ·not-nil, Memᴰ·cast}
 use mathlib.Core.List.{List·Memᴰ·append-cases, Memᴰ·append-left, Memᴰ·append-right}
@@ -9,13 +9,20 @@ use Prim.Native.Nat.{ℕ, zero, suc, _*_, _/_, _%_, _≤_, _<_}
 use native.Mathlib.Nat.{div-add-mod, le-div-iff-mul-le, mul-zero, mul-suc}
 use native.Mathlib.Omega.{arith}
 use lib.Dec.{ltb, leb, eqb}
-use borrow.Author.Tests.{ltb-true, leb-true, eqb-true}
+use borrow.Author.Tests.{ltb-true, leb-true, eqb-true, not-true, not-false}
 use Rattle.laws.specs.Run.{run, run-mem}
 
 -- both tests pass
 pub both : (a b : Bool) → (a && b) ≡ true → (a ≡ true) × (b ≡ true)
 both true b e = (refl, e)
 both false b e = absurd (false≢true e)
+
+-- r is the test t, as code has it: where it fails, and where it passes
+pub fails : {r t : Bool} → r ≡ t → not r ≡ true → t ≡ false
+fails {r} e q = sym e ∙ not-true r q
+
+pub passes : {r t : Bool} → r ≡ t → not r ≡ false → t ≡ true
+passes {r} e q = sym e ∙ not-false r q
 
 module _ {A : Type 0} (test : A → Bool) where
   abbrev pub every : List A → Bool

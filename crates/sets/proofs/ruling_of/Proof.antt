@@ -1,8 +1,8 @@
 -- `sets::ruling_of` says which line applies first: each return by the tests that led there.
-use mathlib.Core.Bool.{Bool, true, false, not}
-use mathlib.Core.Path.{_≡_, _∙_, sym}
+use mathlib.Core.Bool.{true}
+use mathlib.Core.Path.{_≡_}
 use borrow.Author.Needs.{needs}
-use borrow.Author.Tests.{not-true, not-false}
+use Rattle.laws.specs.Members.{fails, passes}
 use Rattle.sizes.specs.Tests.{profileListed, bitsListed, sizeListed}
 use Rattle.sizes.specs.Listed.{bits-small}
 use Rattle.sets.specs.declared.Set.{Set}
@@ -13,13 +13,6 @@ use Rattle.sets.specs.Verdict.{setLines}
 use Rattle.sets.specs.Admits.{passing-listed}
 use Rattle.sets.proofs.ruling_of.Statement.{statement}
 use Rattle.sets.proofs.ruling_of.Tie as tie
-
--- a test in the code and the test that it is
-fails : {r t : Bool} → r ≡ t → not r ≡ true → t ≡ false
-fails {r} e q = sym e ∙ not-true r q
-
-passes : {r t : Bool} → r ≡ t → not r ≡ false → t ≡ true
-passes {r} e q = sym e ∙ not-false r q
 
 -- what has passed, test by test
 profile-passed : (e : tie.Else1) → profileListed (sizeOf (e .before .before .args .set)) ≡ true

@@ -1,16 +1,13 @@
 -- `sets::fitting::fitting_of` asks for the form where the profile and the bits are listed; where they aren't, no size is.
-use mathlib.Core.Bool.{Bool, true, false, not, true≢false}
-use mathlib.Core.Path.{_≡_, sym, _∙_}
+use mathlib.Core.Bool.{true≢false}
+use mathlib.Core.Path.{sym, _∙_}
 use borrow.Author.Needs.{needs}
-use borrow.Author.Tests.{not-true, not-false}
+use Rattle.laws.specs.Members.{fails, passes}
 use Rattle.sizes.specs.Tests.{profileListed, bitsListed}
 use Rattle.sets.specs.Admits.{listed-passing}
 use Rattle.sets.specs.Fits.{fitting-none}
 use Rattle.sets.proofs.fitting.fitting_of.Statement.{statement}
 use Rattle.sets.proofs.fitting.fitting_of.Tie as tie
-
-fails : {r t : Bool} → r ≡ t → not r ≡ true → t ≡ false
-fails {r} e q = sym e ∙ not-true r q
 
 profile-listed-requires : tie.Need-profile-listed-requires
 profile-listed-requires c κs = search needs
@@ -28,7 +25,7 @@ returns-2 c = fitting-none _ (λ n i. true≢false (sym (listed-passing _ i .bit
 
 next-listed-requires : tie.Need-next-listed-requires
 next-listed-requires c κs =
-    (sym (c .before .before .before .profile-listed .ensures) ∙ not-false _ (c .before .before .if1 .left), sym (c .before .bits-listed .ensures) ∙ not-false _ (c .if2 .left))
+    (passes (c .before .before .before .profile-listed .ensures) (c .before .before .if1 .left), passes (c .before .bits-listed .ensures) (c .if2 .left))
 
 returns-3 : tie.Need-returns-3
 returns-3 c = search needs

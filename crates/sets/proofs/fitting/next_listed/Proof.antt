@@ -1,8 +1,13 @@
 -- `sets::fitting::next_listed` is the next size of the profile's form, which is the one that fits.
 use Prim.Native.Nat.{ℕ, _*_, _<_}
+use mathlib.Core.Path.{_≡_}
 use native.Mathlib.Omega.{arith}
 use borrow.Author.Needs.{needs}
+use Rattle.profiles.specs.declared.Form.{Form}
+use Rattle.profiles.specs.Profiles.{sizeIn}
 use Rattle.sizes.specs.Listed.{bits-small, unit-times}
+use Rattle.sets.specs.Fitting.{fitting}
+use Rattle.sets.specs.Next.{Next}
 use Rattle.sets.specs.Fits.{fitting-by, unit-pos, limit-small}
 use Rattle.sets.proofs.fitting.next_listed.Statement.{statement}
 use Rattle.sets.proofs.fitting.next_listed.Tie as tie
@@ -51,42 +56,31 @@ next-in-range-requires c κs = positive (c .before .before .before)
 next-tiered-requires : tie.Need-next-tiered-requires
 next-tiered-requires c κs = let a = c .before .before .before in (positive a, limited a)
 
+-- what the form's next size is
+found : (a : tie.After-admitted-by) {f : Form} {r : ℕ} → a .admitted-by .result .form ≡ f
+    → Next (sizeIn f (a .admitted-by .result .unit) (a .admitted-by .result .limit) (a .before .args .size .bits)) (a .before .args .size .n) r
+    → r ≡ fitting (a .before .args .size)
+found a g l = fitting-by _ (a .before .pre .0) (a .before .pre .1) (a .admitted-by .ensures) g l
+
 returns : tie.Need-returns
-returns c =
-    let a = c .before .before .before .before in
-    let p = a .before .pre in
-    fitting-by _ (p .0) (p .1) (a .admitted-by .ensures) (c .before .enum-told .given .1) (c .next-single .ensures)
+returns c = found (c .before .before .before .before) (c .before .enum-told .given .1) (c .next-single .ensures)
 
 returns-2 : tie.Need-returns-2
-returns-2 c =
-    let a = c .before .before .before .before in
-    let p = a .before .pre in
-    fitting-by _ (p .0) (p .1) (a .admitted-by .ensures) (c .before .enum-told2 .given .1) (c .next-doubling .ensures)
+returns-2 c = found (c .before .before .before .before) (c .before .enum-told2 .given .1) (c .next-doubling .ensures)
 
 returns-3 : tie.Need-returns-3
-returns-3 c =
-    let a = c .before .before .before .before in
-    let p = a .before .pre in
-    fitting-by _ (p .0) (p .1) (a .admitted-by .ensures) (c .before .enum-told3 .given .1) (c .next-multiple .ensures)
+returns-3 c = found (c .before .before .before .before) (c .before .enum-told3 .given .1) (c .next-multiple .ensures)
 
 returns-4 : tie.Need-returns-4
 returns-4 c =
     let g = c .before .before in
-    let a = g .before .before .before .before in
-    let p = a .before .pre in
-    fitting-by _ (p .0) (p .1) (a .admitted-by .ensures) (g .before .enum-told4 .given .1) (rw (← g .group-by .ensures .0) (c .next-multiple2 .ensures))
+    found (g .before .before .before .before) (g .before .enum-told4 .given .1) (rw (← g .group-by .ensures .0) (c .next-multiple2 .ensures))
 
 returns-5 : tie.Need-returns-5
-returns-5 c =
-    let a = c .before .before .before .before in
-    let p = a .before .pre in
-    fitting-by _ (p .0) (p .1) (a .admitted-by .ensures) (c .before .enum-told5 .given .1) (c .next-in-range .ensures)
+returns-5 c = found (c .before .before .before .before) (c .before .enum-told5 .given .1) (c .next-in-range .ensures)
 
 returns-6 : tie.Need-returns-6
-returns-6 c =
-    let a = c .before .before .before .before in
-    let p = a .before .pre in
-    fitting-by _ (p .0) (p .1) (a .admitted-by .ensures) (c .before .enum-told6 .given .1) (c .next-tiered .ensures)
+returns-6 c = found (c .before .before .before .before) (c .before .enum-told6 .given .1) (c .next-tiered .ensures)
 
 pub next-listed-spec : {M : Type 1} → statement M
 next-listed-spec =
