@@ -18,7 +18,7 @@ combine() {
 # answered: whether the command printed what is wanted, and nothing was said
 answered() { [ "$status" -eq 0 ] && [ ! -s "$work/said" ] && cmp -s "$work/got" "$work/want"; }
 
-# refused K: whether that is all that it printed
+# refused WHAT: whether that, behind the word, is all that it printed
 refused() { echo "refused $1" >"$work/want"; answered; }
 
 # failed START: whether it printed nothing, and said one line that starts so

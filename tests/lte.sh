@@ -22,16 +22,8 @@ quadratic 40 7 30 >"$work/want"
 ./interleaver list 8 f2=30 1 40 f1=7 | cmp -s - "$work/want"
 expect 'list 8 1 40 with 7 and 30' $?
 
-# every size that has factors is listed, 188 of them, and no other is
-./interleaver lines >"$work/got" <<END
-$(awk 'BEGIN { for (k = 1; k <= 6200; k++) print "test 8 1", k }')
-END
-awk 'BEGIN { for (k = 1; k <= 6200; k++) {
-    s = k <= 512 ? 8 : k <= 1024 ? 16 : k <= 2048 ? 32 : 64
-    next_k = k <= 40 ? 40 : k > 6144 ? 0 : k + (s - k % s) % s
-    print(next_k == k ? "accepted" : "refused 3 " next_k)
-} }' | cmp -s - "$work/got"
-expect 'the sizes of profile 8' $?
+# 188 sizes are listed. (Which, tests/fitting.sh tries)
+seq 1 6200 | sed 's/^/test 8 1 /' | ./interleaver lines >"$work/got"
 [ "$(grep -c accepted "$work/got")" -eq 188 ]
 expect '188 sizes of profile 8' $?
 

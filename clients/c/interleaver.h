@@ -64,11 +64,11 @@ static inline interleaver_set interleaver_set_lte(uint32_t k, uint32_t f1, uint3
 #define INTERLEAVER_DVB_PHASES 5654880u /* a phase is below this */
 #define INTERLEAVER_DVB_DELAY 2244u     /* an interleaver and a deinterleaver together are this many bytes late */
 
-/* What a call gives back: INTERLEAVER_DONE, or why it was refused. No call gives 8. */
+/* What a call but interleaver_fitting gives back: INTERLEAVER_DONE, or why it was refused. No call gives 8. */
 #define INTERLEAVER_DONE 0u
 #define INTERLEAVER_PROFILE 1u   /* the profile isn't 1 to 8, or it is 5 or 8 and the call is the walk for M */
 #define INTERLEAVER_BITS 2u      /* the bits aren't listed for the profile */
-#define INTERLEAVER_SIZE 3u      /* n isn't listed for that profile and those bits, or k not for profile 8 */
+#define INTERLEAVER_SIZE 3u      /* n isn't listed for that profile and those bits, or k not for profile 8; interleaver_fitting says which is */
 #define INTERLEAVER_POSITION 4u  /* a position is n or more */
 #define INTERLEAVER_INPUT 5u     /* a block's input isn't n long, or its presence bytes aren't */
 #define INTERLEAVER_OUTPUT 6u    /* a block's output isn't n long, or sums or counts aren't, or a feed's output isn't as long as its input */

@@ -82,7 +82,9 @@ void fitting(void) {
     } known[] = {{SET(3, 4, 100, 1), 192}, {SET(3, 4, 193, 1), 0}, {SET(3, 4, 192, 1), 0}, {SET(2, 4, 577, 1), 0}, {SET(2, 6, 1, 1), 288},
         {SET(5, 1, 39, 1), 40}, {SET(8, 1, 513, 1), 528}, {SET(8, 1, 6145, 1), 0}, {SET(3, 4, 100, 9), 192}, {SET(3, 4, 192, 9), 0},
         {SET(3, 3, 100, 1), 0}, {SET(9, 4, 100, 1), 0}, {LTE(40, 0, 10), 0}, {LTE(40, 3, 8), 0}, {LTE(41, 0, 0), 48}};
-    uint32_t profile, factors[4] = {7, 7, 7, 7};
+    interleaver_set five = SET(5, 1, 39, 1);
+    uint32_t profile, factors[4] = {7, 7, 7, 7}, cell = 0, written, cells;
+    uint16_t list_of[3];
     unsigned i;
     for (profile = 0; profile <= 10; profile++)
         for (i = 0; i < sizeof bits / sizeof bits[0]; i++)
@@ -93,6 +95,8 @@ void fitting(void) {
         EXPECT(interleaver_fitting(&accepted[i]) == 0);
     for (i = 0; i < REFUSED; i++)
         EXPECT(refused[i].number == INTERLEAVER_SIZE || interleaver_fitting(&refused[i].set) == 0);
-    EXPECT(interleaver_lte_factors(6100, factors) == INTERLEAVER_SIZE && factors[0] == 7); /* a K of profile 8 asks with its set */
+    /* the walk for M of profile 5 says 1 before the test's 3; a K of profile 8 asks with its set */
+    EXPECT(interleaver_walk_m(&five, &cell, list_of, 3, &written, &cells) == INTERLEAVER_PROFILE && interleaver_fitting(&five) == 40);
+    EXPECT(interleaver_lte_factors(6100, factors) == INTERLEAVER_SIZE && factors[0] == 7);
     EXPECT(interleaver_fitting(&(interleaver_set)SET(8, 1, 6100, 1)) == 6144);
 }

@@ -32,6 +32,7 @@ mod refusal;
 mod sums;
 
 pub use refusal::Refusal;
+use refusal::{answer, answer_with};
 pub use sums::Running;
 
 mod raw {
@@ -83,19 +84,6 @@ mod raw {
         };
     }
     feeds!(interleaver_dvb_interleave, interleaver_dvb_deinterleave);
-}
-
-fn answer(number: u32) -> Result<(), Refusal> {
-    answer_with(number, || 0)
-}
-
-// The answer of a call; what a refusal with 3 carries is asked for then alone.
-fn answer_with(number: u32, fits: impl FnOnce() -> u32) -> Result<(), Refusal> {
-    match number {
-        0 => Ok(()),
-        3 => Err(Refusal::of(3, fits())),
-        refused => Err(Refusal::of(refused, 0)),
-    }
 }
 
 /// A parameter set: a profile (1 IEEE 802.16 OFDM, 2 OFDMA, 3 IEEE 802.11a, 4 bench, 5 WCDMA turbo, 6 IEEE 802.11n at 20 MHz, 7 at 40 MHz, 8 LTE

@@ -66,11 +66,25 @@ impl std::fmt::Display for Refusal {
     fn fmt(&self, f: &mut std::fmt::Formatter) -> std::fmt::Result {
         write!(f, "refused with {}: {}", self.number(), self.sentence())?;
         match self {
-            Refusal::Size { fits: 0 } => write!(f, "; none so large is"),
-            Refusal::Size { fits } => write!(f, "; the next that is: {fits}"),
+            Refusal::Size { fits: 0 } => write!(f, "; no listed one is so large"),
+            Refusal::Size { fits } => write!(f, "; the next listed one is {fits}"),
             _ => Ok(()),
         }
     }
 }
 
 impl std::error::Error for Refusal {}
+
+// The answer of a call.
+pub(crate) fn answer(number: u32) -> Result<(), Refusal> {
+    answer_with(number, || 0)
+}
+
+// The same of a call that carries a size with 3, which is asked for then alone.
+pub(crate) fn answer_with(number: u32, fits: impl FnOnce() -> u32) -> Result<(), Refusal> {
+    match number {
+        0 => Ok(()),
+        3 => Err(Refusal::of(3, fits())),
+        refused => Err(Refusal::of(refused, 0)),
+    }
+}

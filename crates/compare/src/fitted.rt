@@ -101,7 +101,7 @@ fn each(up: bool) -> Run {
     r
 }
 
-// A line for all of them; what is counted going up is in no total.
+// A line for all of them; what is counted going up is not in the program's last line.
 pub fn show(title: &[u8], up: bool) -> u64 {
     let r = each(up);
     io::write_all(STDOUT_FILENO, title);

@@ -1,9 +1,10 @@
 // Compares every whole list with a second computation of it, which divides at each address and shares no function with the walk: all sets
 // of profiles 1 to 4, 6 and 7, every K of 5 and every K of 8 with LTE's own factors, whole and in slices; the test of f1 and f2 with trying all
-// positions, for every K of 8 up to 128; the size that refusal 3 carries with going through all sizes; and for sixteen sets shorter slices, blocks of bytes and single addresses. Each
-// comparison is tried on a list that is wrong on purpose as well, and has to count differences there; every K on its list without the exchange of
-// full rectangles, to count the sizes that the exchange touches; the sets of 6 and 7 on their lists with no stream turned, to count those that
-// are; and those of 8 on their lists with t for t², and its test with f1 and f2 exchanged; the sizes that are carried, on the greatest listed ones below.
+// positions, for every K of 8 up to 128; the size that refusal 3 carries with going through all sizes; and for sixteen sets shorter slices, blocks
+// of bytes and single addresses. Each comparison is tried on a list that is wrong on purpose as well, and has to count differences there; every K on
+// its list without the exchange of full rectangles, to count the sizes that the exchange touches; the sets of 6 and 7 on their lists with no stream
+// turned, to count those that are; those of 8 on their lists with t for t², and its test with f1 and f2 exchanged; and the sizes that are carried, on
+// the greatest listed ones below.
 mod chosen;
 mod count;
 mod decided;

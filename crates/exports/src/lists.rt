@@ -5,10 +5,10 @@ use laws::Way;
 ghost use mathlib.Core.Path.{_≡_};
 ghost use Prim.Native.Nat.{ℕ};
 ghost use Rattle.laws.specs.declared.Way.the-variants.{Interleaver, Deinterleaver};
-ghost use Rattle.sets.specs.Verdict.{verdictOf};
+ghost use Rattle.sets.specs.Verdict.{verdictOf, fittingOf};
 ghost use Rattle.lte.specs.Factors.{givenOf};
 ghost use Rattle.walks.specs.Answer.{sliceOf, foundOf, Values};
-ghost use Rattle.flat.specs.Flat.{setOf, walkOf, lentWalk, numberOf, fittingOf, outOf, factorsList};
+ghost use Rattle.flat.specs.Flat.{setOf, walkOf, lentWalk, numberOf, outOf, factorsList};
 
 // The test of a set. Refusals 1, 2, 3, 16, 11, 10.
 #[no_mangle]

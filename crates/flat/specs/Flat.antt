@@ -55,10 +55,6 @@ numberBy number (refused x) = number x
 abbrev pub numberOf : {A : Type 0} → Outcome Refusal A → ℕ
 numberOf = numberBy (λ (x : Refusal). x .number)
 
--- the size that it carries; 0 where the call is done
-abbrev pub fittingOf : {A : Type 0} → Outcome Refusal A → ℕ
-fittingOf = numberBy (λ (x : Refusal). x .size)
-
 abbrev pub streamNumberOf : {A : Type 0} → Outcome ℕ A → ℕ
 streamNumberOf = numberBy (λ (k : ℕ). k)
 

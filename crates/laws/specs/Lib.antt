@@ -32,5 +32,6 @@ pub mod Split
 pub mod Shared
 pub mod Stepped
 pub mod Least
+pub mod Next
 pub mod Seek
 pub mod Told

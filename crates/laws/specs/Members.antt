@@ -91,13 +91,18 @@ one-of x (y ∷ ys) e = go (eqb x y) refl e (one-of x ys)
 abbrev pub multiple : ℕ → ℕ → ℕ → Bool
 multiple u m n = ltb 0 n && (leb n m && eqb (n % u) 0)
 
-pub multiple-of : (u m n : ℕ) → 0 < u → multiple u m n ≡ true → List·Memᴰ n (run (λ j. u * j) 1 (m / u))
-multiple-of u m n hu e =
+pub multiple-is : (u m n : ℕ) → multiple u m n ≡ true → (0 < n) × (n ≤ m) × (n % u ≡ 0)
+multiple-is u m n e =
     let p = both (ltb 0 n) (leb n m && eqb (n % u) 0) e in
     let q = both (leb n m) (eqb (n % u) 0) (p .1) in
-    let whole : n ≡ u * (n / u) = omega (arith, div-add-mod n u, eqb-true (n % u) 0 (q .1)) in
-    let least : 1 ≤ n / u = le-div-iff-mul-le hu .1 (omega (arith, le-of-pos-multiple (n / u) (ltb-true 0 n (p .0)) whole)) in
-    let most : n / u ≤ m / u = le-div-iff-mul-le hu .1 (omega (arith, leb-true n m (q .0))) in
+    (ltb-true 0 n (p .0), leb-true n m (q .0), eqb-true (n % u) 0 (q .1))
+
+pub multiple-of : (u m n : ℕ) → 0 < u → multiple u m n ≡ true → List·Memᴰ n (run (λ j. u * j) 1 (m / u))
+multiple-of u m n hu e =
+    let p = multiple-is u m n e in
+    let whole : n ≡ u * (n / u) = omega (arith, div-add-mod n u, p .2) in
+    let least : 1 ≤ n / u = le-div-iff-mul-le hu .1 (omega (arith, le-of-pos-multiple (n / u) (p .0) whole)) in
+    let most : n / u ≤ m / u = le-div-iff-mul-le hu .1 (omega (arith, p .1)) in
     Memᴰ·cast whole (run-mem (λ j. u * j) 1 (m / u) (n / u) least (omega arith))
   where
     le-of-pos-multiple : (w : ℕ) → 0 < n → n ≡ u * w → u ≤ n

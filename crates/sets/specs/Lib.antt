@@ -3,12 +3,11 @@ pub mod Stream
 pub mod Numbered
 pub mod Fit
 pub mod Fitting
-pub mod Next
 pub mod Tiers
 pub mod Beside
 pub mod Verdict
 pub mod Admits
-pub mod Fits
+pub mod NextSize
 pub mod Handed
 pub mod Listed
 pub mod Carried

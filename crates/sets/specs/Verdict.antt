@@ -5,7 +5,7 @@ use mathlib.Core.Bool.{not, cond}
 use mathlib.Core.List.{List, [], _∷_, _++_}
 use mathlib.Core.Path.{_≡_, refl}
 use lib.Dec.{eqb}
-use Rattle.laws.specs.Outcome.{Outcome, done, refused, apart, Line, line, Ruling, clear, stopped, first, settle, judged}
+use Rattle.laws.specs.Outcome.{Outcome, done, refused, apart, Line, line, Ruling, clear, stopped, first, judged}
 use Rattle.sets.specs.declared.Set.{Set}
 use Rattle.sets.specs.declared.Refusal.{Refusal}
 use Rattle.sets.specs.declared.Ruled.{Ruled}
@@ -43,20 +43,25 @@ abbrev pub sayVerdict : Verdict → Outcome Refusal (Unit {0})
 sayVerdict Accepted = done tt
 sayVerdict (Refused x) = refused x
 
+-- which line of the test applies first
+abbrev pub rulingOf : Set → Ruling
+rulingOf s = first (setLines s)
+
 -- what the test of a set has to say
 unfoldable pub verdictOf : Set → Outcome Refusal (Unit {0})
 verdictOf s = judged (refusal s) (setLines s) tt
 
--- the size that its refusal carries; 0 where the set is accepted
-unfoldable pub verdictSize : Set → ℕ
-verdictSize s = settle (first (setLines s)) (λ k. refusal s k .size) 0
+-- the size that a call's refusal carries; 0 where it is done
+abbrev pub fittingOf : {A : Type 0} → Outcome Refusal A → ℕ
+fittingOf (done a) = 0
+fittingOf (refused x) = x .size
 
 -- which line applies first says all: where none does the set is accepted, else it is refused with that one's number
-pub clear-accepts : (s : Set) → first (setLines s) ≡ clear → verdictOf s ≡ done tt
+pub clear-accepts : (s : Set) → rulingOf s ≡ clear → verdictOf s ≡ done tt
 unfolding verdictOf
 clear-accepts s e = rw e refl
 
-pub stopped-refuses : (s : Set) {k : ℕ} → first (setLines s) ≡ stopped k → verdictOf s ≡ refused (refusal s k)
+pub stopped-refuses : (s : Set) {k : ℕ} → rulingOf s ≡ stopped k → verdictOf s ≡ refused (refusal s k)
 unfolding verdictOf
 stopped-refuses s e = rw e refl
 
@@ -66,6 +71,17 @@ unfolding refusal
 refusal-number s k = refl
 
 -- two answers that say the same are the same
+pub rulings-apart : (a b : Ruled) → sayRuled a ≡ sayRuled b → a ≡ b
+rulings-apart = apart sayRuled read same
+  where
+    read : Ruling → Ruled
+    read clear = Clear
+    read (stopped k) = Stopped k
+
+    same : (a : Ruled) → read (sayRuled a) ≡ a
+    same Clear = refl
+    same (Stopped k) = refl
+
 pub verdicts-apart : (a b : Verdict) → sayVerdict a ≡ sayVerdict b → a ≡ b
 verdicts-apart = apart sayVerdict read same
   where

@@ -1,18 +1,21 @@
-// The size that would have fitted: the least listed N not below the one asked for, worked out by the form of the profile's sizes. None is looked for:
-// multiples are rounded up, of five doublings the next is taken, a range has its ends.
+// The size that would have fitted: the least listed N not below the one asked for, worked out by the form of the profile's sizes. No list is searched:
+// of five doublings the next is taken, multiples are rounded up, a range begins at its end.
 use profiles::Form;
 use profiles::admitted_by;
 use profiles::group_by;
 use profiles::step_by;
 use sizes::Size;
-ghost use mathlib.Core.Bool.{true};
+ghost use mathlib.Core.Bool.{true, _&&_};
 ghost use mathlib.Core.Path.{_≡_};
 ghost use Prim.Native.Nat.{max, _<_};
-ghost use Rattle.laws.specs.Members.{multiple};
+ghost use lib.Dec.{leb, eqb};
+ghost use Rattle.laws.specs.Members.{oneOf, multiple};
+ghost use Rattle.laws.specs.Next.{Next};
+ghost use Rattle.profiles.specs.declared.Form.the-variants.{Tiered};
+ghost use Rattle.profiles.specs.Profiles.{doubles, sizeIn};
 ghost use Rattle.sizes.specs.Size.{size};
 ghost use Rattle.sizes.specs.Tests.{profileListed, bitsListed};
 ghost use Rattle.sets.specs.Fitting.{fitting};
-ghost use Rattle.sets.specs.Next.{Next, single, doubling, range, tiered};
 
 // The greater of two numbers.
 fn at_least(n: u32, u: u32) -> u32
@@ -27,7 +30,7 @@ fn at_least(n: u32, u: u32) -> u32
 // The next size of each form: the least that is not below n, or 0 if there is none. Here the only one, u.
 fn next_single(u: u32, n: u32) -> u32
     requires { ⌜ 0 < u ⌝ }
-    ensures { λ r. ⌜ Next (single u) n r ⌝ }
+    ensures { λ r. ⌜ Next (λ k. eqb k u) n r ⌝ }
 {
     if u < n {
         return 0;
@@ -38,7 +41,7 @@ fn next_single(u: u32, n: u32) -> u32
 // Of u and twice, four, eight and sixteen times as much.
 fn next_doubling(u: u32, n: u32) -> u32
     requires { ⌜ (0 < u) × (u < 65536) ⌝ }
-    ensures { λ r. ⌜ Next (doubling u) n r ⌝ }
+    ensures { λ r. ⌜ Next (λ k. oneOf k (doubles u)) n r ⌝ }
 {
     if n <= u {
         return u;
@@ -76,7 +79,7 @@ fn next_multiple(u: u32, m: u32, n: u32) -> u32
 // Of the numbers from u to m.
 fn next_in_range(u: u32, m: u32, n: u32) -> u32
     requires { ⌜ 0 < u ⌝ }
-    ensures { λ r. ⌜ Next (range u m) n r ⌝ }
+    ensures { λ r. ⌜ Next (λ k. leb u k && leb k m) n r ⌝ }
 {
     let first = at_least(n, u);
     if first > m {
@@ -88,7 +91,7 @@ fn next_in_range(u: u32, m: u32, n: u32) -> u32
 // Of those that LTE's steps lead to.
 fn next_tiered(u: u32, m: u32, n: u32) -> u32
     requires { ⌜ (0 < u) × (m < 65536) ⌝ }
-    ensures { λ r. ⌜ Next (tiered u m) n r ⌝ }
+    ensures { λ r. ⌜ Next (sizeIn Tiered u m 1) n r ⌝ }
 {
     let first = at_least(n, u);
     next_multiple(step_by(first), m, first)
@@ -114,7 +117,7 @@ fn next_listed(size: Size) -> u32
     }
 }
 
-// Of any numbers. Where the profile or the bits aren't listed, no N is. (They are no struct, which whoever may have to ask would copy.)
+// Of any numbers. Where the profile or the bits aren't listed, no N is. (Three numbers, and no `Size`, which every caller would copy.)
 pub(super) fn fitting_of(profile: u32, bits: u32, n: u32) -> u32
     ensures { λ r. ⌜ r ≡ fitting (size profile bits n) ⌝ }
 {

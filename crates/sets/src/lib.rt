@@ -4,8 +4,7 @@ ghost use Prim.Native.Nat.{_<_};
 ghost use Rattle.sets.specs.Set.{familyOf, isTurbo, isSpatial, isQuadratic, numbersOf, groupOf};
 ghost use Rattle.sets.specs.Stream.{streamListed};
 ghost use Rattle.sets.specs.Beside.{factorsIn, factorsApart, Testable};
-ghost use Rattle.laws.specs.Outcome.{first};
-ghost use Rattle.sets.specs.Verdict.{setLines, refusal, sayRuled, sayVerdict, verdictOf, verdictSize};
+ghost use Rattle.sets.specs.Verdict.{refusal, sayRuled, sayVerdict, rulingOf, verdictOf, fittingOf};
 use profiles::Family;
 use profiles::Numbers;
 use sizes::Size;
@@ -162,9 +161,10 @@ fn factors_apart(set: Set) -> bool
     quadratic::all_apart(set.n, set.factors.first, set.factors.second)
 }
 
-// Which line of the test applies first: 1, 2, 3, 16, 11, 10, in that order, and nothing more.
+// Which line of the test applies first: 1, 2, 3, 16, 11, 10, in that order, and nothing more. (`rulings-apart` in specs/Verdict.antt: what is said leaves
+// one answer.)
 pub fn ruling_of(set: Set) -> Ruled
-    ensures { λ r. ⌜ sayRuled r ≡ first (setLines set) ⌝ }
+    ensures { λ r. ⌜ sayRuled r ≡ rulingOf set ⌝ }
 {
     let size = Size {
         profile: set.profile,
@@ -192,7 +192,7 @@ pub fn ruling_of(set: Set) -> Ruled
     Ruled::Clear
 }
 
-// The test of a parameter set. (`verdicts-apart` in specs/Verdict.antt: what is said leaves one answer.)
+// The test of a parameter set. (`verdicts-apart` likewise.)
 pub fn test(set: Set) -> Verdict
     ensures { λ r. ⌜ sayVerdict r ≡ verdictOf set ⌝ }
 {
@@ -205,7 +205,7 @@ pub fn test(set: Set) -> Verdict
 // The size that its refusal carries; 0 where the set is accepted. (It asks for the size by itself: were `refusal_of` the only one to ask, the compiler would
 // make one function of the two, and each call on a set would be some twenty instructions dearer.)
 pub fn verdict_size(set: Set) -> u32
-    ensures { λ r. ⌜ r ≡ verdictSize set ⌝ }
+    ensures { λ r. ⌜ r ≡ fittingOf (verdictOf set) ⌝ }
 {
     match ruling_of(set) {
         Ruled::Clear => 0,

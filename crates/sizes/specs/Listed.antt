@@ -86,12 +86,15 @@ bits-small z e =
 pub group-standard : (z : Size) → bitsListed z ≡ true → groupBy (z .bits) ≡ max (z .bits / 2) 1
 group-standard z e = eqb-true _ _ (at-each (λ b. eqb (groupBy b) (max (b / 2) 1)) (bitsOf kinds.Each) refl (bits-among z e))
 
--- every unit is below 1,000, so that no product of a size's test wraps
-unit-small : (p : ℕ) → (0 < admittedBy p .unit) × (admittedBy p .unit < 1000)
+-- every unit is below 1,000, and every limit below 65,536, so that nothing wraps in a size's test, or in going on from a size
+pub unit-small : (p : ℕ) → (0 < admittedBy p .unit) × (admittedBy p .unit < 1000)
 unit-small p =
     let q = at-each (λ q. ltb 0 (q .admitted .unit) && ltb (q .admitted .unit) 1000) profiles refl (in-profiles p) in
     let r = both (ltb 0 (admittedBy p .unit)) (ltb (admittedBy p .unit) 1000) q in
     (ltb-true 0 _ (r .0), ltb-true _ 1000 (r .1))
+
+pub limit-small : (p : ℕ) → admittedBy p .limit < 65536
+limit-small p = ltb-true _ 65536 (at-each (λ q. ltb (q .admitted .limit) 65536) profiles refl (in-profiles p))
 
 pub unit-times : (p : ℕ) {a : Admitted} → a ≡ admittedBy p → (b : ℕ) → 0 < b → b < 7 → (0 < a .unit * b) × (a .unit * b < 6001)
 unit-times p e b lo hi =

@@ -99,7 +99,7 @@ fn the_standards_own() {
                 assert_eq!((sizes.contains(&k), set.sources()), (true, Ok(list(set))));
             }
             refused => {
-                let fits = super::next_of(&sizes, k);
+                let fits = super::fitting::next_of(&sizes, k);
                 assert!(!sizes.contains(&k));
                 assert_eq!((refused, Set::lte(k, 3, 10)), (Err(Refusal::Size { fits }), Err(Refusal::Size { fits })));
             }

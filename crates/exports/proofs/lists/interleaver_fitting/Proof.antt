@@ -1,7 +1,5 @@
 -- `exports::lists::interleaver_fitting` hands the size of the verdict on.
-use mathlib.Core.Path.{_∙_}
 use borrow.Author.Needs.{needs}
-use Rattle.flat.specs.Said.{size-said}
 use Rattle.exports.proofs.lists.interleaver_fitting.Statement.{statement}
 use Rattle.exports.proofs.lists.interleaver_fitting.Tie as tie
 
@@ -12,7 +10,7 @@ verdict-size-requires : tie.Need-verdict-size-requires
 verdict-size-requires c κs = search needs
 
 returns : tie.Need-returns
-returns c = rw (← c .before .set-of .ensures) (c .verdict-size .ensures ∙ size-said _)
+returns c = rw (← c .before .set-of .ensures) (c .verdict-size .ensures)
 
 pub interleaver-fitting-spec : {M : Type 1} → statement M
 interleaver-fitting-spec = tie.close (tie.spec set-of-requires verdict-size-requires returns)

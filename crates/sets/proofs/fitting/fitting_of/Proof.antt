@@ -5,7 +5,7 @@ use borrow.Author.Needs.{needs}
 use Rattle.laws.specs.Members.{fails, passes}
 use Rattle.sizes.specs.Tests.{profileListed, bitsListed}
 use Rattle.sets.specs.Admits.{listed-passing}
-use Rattle.sets.specs.Fits.{fitting-none}
+use Rattle.sets.specs.NextSize.{fitting-none}
 use Rattle.sets.proofs.fitting.fitting_of.Statement.{statement}
 use Rattle.sets.proofs.fitting.fitting_of.Tie as tie
 

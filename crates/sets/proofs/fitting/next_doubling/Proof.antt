@@ -1,15 +1,21 @@
 -- `sets::fitting::next_doubling` goes through the five numbers from the least on.
 use Prim.Native.Nat.{ℕ, _<_}
 use mathlib.Core.Path.{_≡_}
+use native.Mathlib.Omega.{arith}
 use borrow.Author.Needs.{needs}
 use borrow.Author.Tests.{le-leb, lt-leb}
 use Rattle.profiles.specs.Profiles.{doubles}
-use Rattle.sets.specs.Next.{Next, doubling, firstFrom, next-double}
+use Rattle.laws.specs.Members.{oneOf}
+use Rattle.laws.specs.Next.{Next, firstFrom, Rising, next-rising}
 use Rattle.sets.proofs.fitting.next_doubling.Statement.{statement}
 use Rattle.sets.proofs.fitting.next_doubling.Tie as tie
 
-found : (u n r : ℕ) → 0 < u → firstFrom n (doubles u) ≡ r → Next (doubling u) n r
-found u n r pos e = rw (← e) (next-double u n pos)
+-- the five rise
+rising : (u : ℕ) → 0 < u → Rising 0 (doubles u)
+rising u pos = (pos, (omega arith, (omega arith, (omega arith, (omega arith, tt)))))
+
+found : (u n r : ℕ) → 0 < u → firstFrom n (doubles u) ≡ r → Next (λ k. oneOf k (doubles u)) n r
+found u n r pos e = rw (← e) (next-rising n 0 (doubles u) (rising u pos))
 
 returns : tie.Need-returns
 returns c = found _ _ _ (c .before .pre .0) (simp (le-leb _ _ (c .if1 .taken)))

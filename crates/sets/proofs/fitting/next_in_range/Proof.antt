@@ -1,7 +1,7 @@
 -- `sets::fitting::next_in_range` is the first number asked for, or nothing past the end.
 use native.Mathlib.Omega.{arith}
 use borrow.Author.Needs.{needs}
-use Rattle.sets.specs.Next.{next-range, none-range}
+use Rattle.laws.specs.Next.{next-range, none-range}
 use Rattle.sets.proofs.fitting.next_in_range.Statement.{statement}
 use Rattle.sets.proofs.fitting.next_in_range.Tie as tie
 

@@ -5,10 +5,10 @@ use native.Mathlib.Omega.{arith}
 use borrow.Author.Needs.{needs}
 use Rattle.profiles.specs.declared.Form.{Form}
 use Rattle.profiles.specs.Profiles.{sizeIn}
-use Rattle.sizes.specs.Listed.{bits-small, unit-times}
+use Rattle.sizes.specs.Listed.{bits-small, unit-small, limit-small, unit-times}
 use Rattle.sets.specs.Fitting.{fitting}
-use Rattle.sets.specs.Next.{Next}
-use Rattle.sets.specs.Fits.{fitting-by, unit-pos, limit-small}
+use Rattle.laws.specs.Next.{Next}
+use Rattle.sets.specs.NextSize.{fitting-by}
 use Rattle.sets.proofs.fitting.next_listed.Statement.{statement}
 use Rattle.sets.proofs.fitting.next_listed.Tie as tie
 
@@ -21,10 +21,10 @@ by-group : (a : tie.After-admitted-by) (g : ℕ) → 0 < g → g < 4 → (0 < a 
 by-group a g lo hi = unit-times _ (a .admitted-by .ensures) g lo (omega arith)
 
 limited : (a : tie.After-admitted-by) → a .admitted-by .result .limit < 65536
-limited a = limit-small _ (a .admitted-by .ensures)
+limited a = rw (a .admitted-by .ensures) (limit-small _)
 
 positive : (a : tie.After-admitted-by) → 0 < a .admitted-by .result .unit
-positive a = unit-pos _ (a .admitted-by .ensures)
+positive a = rw (a .admitted-by .ensures) (unit-small _ .0)
 
 mul-u : tie.Need-mul-u
 mul-u c = record { fits = omega (arith, by-bits (c .before) .1) }

@@ -3,7 +3,7 @@ use Prim.Native.Nat.{_+_, _-_}
 use native.Mathlib.Nat.{div-mul-le-self}
 use native.Mathlib.Omega.{arith}
 use borrow.Author.Needs.{needs}
-use Rattle.sets.specs.Next.{next-multiple, none-multiple, past-multiple}
+use Rattle.laws.specs.Next.{next-multiple, none-multiple, past-multiple}
 use Rattle.sets.proofs.fitting.next_multiple.Statement.{statement}
 use Rattle.sets.proofs.fitting.next_multiple.Tie as tie
 

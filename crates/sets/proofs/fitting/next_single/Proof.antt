@@ -1,6 +1,6 @@
 -- `sets::fitting::next_single` is the number itself, where it is not below N.
 use native.Mathlib.Omega.{arith}
-use Rattle.sets.specs.Next.{next-single, none-single}
+use Rattle.laws.specs.Next.{next-single, none-single}
 use Rattle.sets.proofs.fitting.next_single.Statement.{statement}
 use Rattle.sets.proofs.fitting.next_single.Tie as tie
 

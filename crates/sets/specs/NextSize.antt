@@ -1,13 +1,14 @@
 -- What the size that would have fitted is, by the listed sizes; and what the code goes by: for listed bits of a listed profile it is the least N from the
 -- one asked for on that passes the test of sizes, and for any others 0. Rests on Fitting, Fit and Admits.
-use Prim.Native.Nat.{ℕ, _<_}
+use Prim.Native.Nat.{ℕ}
 use mathlib.Core.Bool.{true}
 use mathlib.Core.List.{List·Memᴰ, Memᴰ·map, Memᴰ·of-map, Memᴰ·cast}
 use mathlib.Core.Logic.{_↔_}
 use mathlib.Core.Path.{_≡_, refl, sym, _∙_}
-use lib.Dec.{ltb, eqb}
-use borrow.Author.Tests.{ltb-true, eqb-true, eq-eqb}
-use Rattle.laws.specs.Members.{both, at-each}
+use lib.Dec.{eqb}
+use borrow.Author.Tests.{eqb-true, eq-eqb}
+use Rattle.laws.specs.Members.{both}
+use Rattle.laws.specs.Next.{Next}
 use Rattle.laws.specs.Least.{those, in-those, of-those, LeastFrom, one-least, least-same, least-none, least-those}
 use Rattle.sizes.specs.declared.Size.{Size}
 use Rattle.sizes.specs.Size.{size}
@@ -15,10 +16,8 @@ use Rattle.sizes.specs.Tests.{listedSizes, profileListed, bitsListed, sizeListe
 use Rattle.sizes.specs.Listed.{size-by}
 use Rattle.profiles.specs.declared.Form.{Form}
 use Rattle.profiles.specs.declared.Admitted.{Admitted}
-use Rattle.profiles.specs.Profiles.{profiles, admittedBy, sizeIn}
-use Rattle.profiles.specs.Entered.{in-profiles}
+use Rattle.profiles.specs.Profiles.{admittedBy, sizeIn}
 use Rattle.sets.specs.Fit.{listed-pos}
-use Rattle.sets.specs.Next.{Next}
 use Rattle.sets.specs.Fitting.{alike, listedFor, fitting}
 use Rattle.sets.specs.Admits.{listed-passing, passing-listed}
 
@@ -62,13 +61,6 @@ fitting-is z p b l = one-least (least-same (λ m. (passing-listed (size (z .prof
 pub fitting-by : (z : Size) → profileListed z ≡ true → bitsListed z ≡ true → {a : Admitted} → a ≡ admittedBy (z .profile) → {f : Form} → a .form ≡ f
     → {r : ℕ} → Next (sizeIn f (a .unit) (a .limit) (z .bits)) (z .n) r → r ≡ fitting z
 fitting-by z p b e g l = fitting-is z p b (least-same (λ m. let t = size-by (size (z .profile) (z .bits) m) e g in (λ h. t ∙ h, λ h. sym t ∙ h)) l)
-
--- a profile's unit is not 0, and its limit is small
-pub unit-pos : (p : ℕ) {a : Admitted} → a ≡ admittedBy p → 0 < a .unit
-unit-pos p e = rw e (ltb-true 0 _ (at-each (λ q. ltb 0 (q .admitted .unit)) profiles refl (in-profiles p)))
-
-pub limit-small : (p : ℕ) {a : Admitted} → a ≡ admittedBy p → a .limit < 65536
-limit-small p e = rw e (ltb-true _ 65536 (at-each (λ q. ltb (q .admitted .limit) 65536) profiles refl (in-profiles p)))
 
 -- and where none is listed, it is 0
 pub fitting-none : (z : Size) → ((n : ℕ) → ListedFor z n → ⊥) → 0 ≡ fitting z

@@ -1,5 +1,5 @@
--- The next size of each form: the least number from n on that passes the form's test, or 0 if there is none. A list is gone through from its least
--- number on; a multiple is rounded up; and where the sizes go by tiers, N is rounded up by its own step. Rests on Profiles of crate profiles.
+-- The least number from n on that passes a test, or 0 if there is none: of one number alone, of a list that rises, of a range, of the multiples of a
+-- number, which are rounded up to. Rests on Least and Members.
 use Prim.Native.Nat.{ℕ, max, _+_, _-_, _*_, _/_, _%_, _≤_, _<_}
 use mathlib.Core.Bool.{Bool, true, false, cond, _&&_, _||_, false≢true}
 use mathlib.Core.List.{List, [], _∷_, List·Memᴰ, List·Memᴰ·cases-cons, List·Memᴰ·not-nil}
@@ -7,34 +7,20 @@ use mathlib.Core.Logic.{⊎-elim}
 use mathlib.Core.Path.{_≡_, refl}
 use native.Mathlib.Nat.{mul-mod-left, lt-div-mul-add, div-lt-iff-lt-mul, mul-le-mul-right, div-add-mod'}
 use native.Mathlib.Omega.{arith}
-use lib.Dec.{leb, ltb, eqb}
-use borrow.Author.Tests.{leb-true, leb-false, le-leb, ltb-true, lt-ltb, eqb-true, eq-eqb}
-use Rattle.laws.specs.Members.{both, oneOf, one-of, multiple}
+use lib.Dec.{leb, eqb}
+use borrow.Author.Tests.{leb-true, leb-false, le-leb, lt-ltb, eqb-true, eq-eqb}
+use Rattle.laws.specs.Members.{both, oneOf, one-of, multiple, multiple-is}
 use Rattle.laws.specs.Least.{LeastFrom, least-found, least-nowhere}
-use Rattle.profiles.specs.Profiles.{stepBy, doubles}
 
 -- r is the least number from n on that passes a test, or 0 if there is none
 abbrev pub Next : (ℕ → Bool) → ℕ → ℕ → Type 0
 Next test n r = LeastFrom (λ m. test m ≡ true) n r
 
--- the tests of the forms (`sizeIn` in Profiles): one number alone, five doublings, a range, and a range by tiers. That of multiples is `multiple`
-abbrev pub single : ℕ → ℕ → Bool
-single u n = eqb n u
-
-abbrev pub doubling : ℕ → ℕ → Bool
-doubling u n = oneOf n (doubles u)
-
-abbrev pub range : ℕ → ℕ → ℕ → Bool
-range u m n = leb u n && leb n m
-
-abbrev pub tiered : ℕ → ℕ → ℕ → Bool
-tiered u m n = leb u n && (leb n m && eqb (n % stepBy n) 0)
-
 -- one number
-pub next-single : (u n : ℕ) → 0 < u → n ≤ u → Next (single u) n u
+pub next-single : (u n : ℕ) → 0 < u → n ≤ u → Next (λ k. eqb k u) n u
 next-single u n pos h = least-found pos (eq-eqb u u refl) h (λ m p q. omega (arith, eqb-true m u p))
 
-pub none-single : (u n : ℕ) → u < n → Next (single u) n 0
+pub none-single : (u n : ℕ) → u < n → Next (λ k. eqb k u) n 0
 none-single u n h = least-nowhere (λ m p. omega (arith, eqb-true m u p))
 
 -- a list that rises: its first number that is not below n, or 0
@@ -72,16 +58,13 @@ next-rising n lo (x ∷ xs) r = go (leb n x) refl (next-rising n x xs (r .1))
       none-between = λ m t q. next .none-between m (other m (leb-false n x e) (eqb m x) refl t q) q;
     }
 
-pub next-double : (u n : ℕ) → 0 < u → Next (doubling u) n (firstFrom n (doubles u))
-next-double u n pos = next-rising n 0 (doubles u) (pos, (omega arith, (omega arith, (omega arith, (omega arith, tt)))))
-
 -- a range, from the first number of it that is asked for
-pub next-range : (u m n : ℕ) → 0 < u → max n u ≤ m → Next (range u m) n (max n u)
+pub next-range : (u m n : ℕ) → 0 < u → max n u ≤ m → Next (λ k. leb u k && leb k m) n (max n u)
 next-range u m n pos h =
     least-found (omega arith) (rw (le-leb u (max n u) (omega arith)) (le-leb (max n u) m h)) (omega arith)
     (λ k p q. omega (arith, leb-true u k (both (leb u k) _ p .0)))
 
-pub none-range : (u m n : ℕ) → m < max n u → Next (range u m) n 0
+pub none-range : (u m n : ℕ) → m < max n u → Next (λ k. leb u k && leb k m) n 0
 none-range u m n h =
     least-nowhere (λ k p. let q = both (leb u k) _ p in omega (arith, leb-true u k (q .0), leb-true k m (q .1)))
 
@@ -101,13 +84,6 @@ module _ (u a : ℕ) (hu : 0 < u) where
       let p : (a + (u - 1)) / u ≤ k / u = omega arith in
       omega (arith, mul-le-mul-right u p)
 
--- what `multiple` says
-pub multiple-is : (u m k : ℕ) → multiple u m k ≡ true → (0 < k) × ((k ≤ m) × (k % u ≡ 0))
-multiple-is u m k t =
-    let p = both (ltb 0 k) _ t in
-    let q = both (leb k m) _ (p .1) in
-    (ltb-true 0 k (p .0), (leb-true k m (q .0), eqb-true (k % u) 0 (q .1)))
-
 -- the multiples, from 1 on
 module _ (u m n : ℕ) (hu : 0 < u) where
   pub next-multiple : rounded u (max n 1) ≤ m → Next (multiple u m) n (rounded u (max n 1))
@@ -116,14 +92,14 @@ module _ (u m n : ℕ) (hu : 0 < u) where
       least-found (omega (arith, up))
       (rw (lt-ltb 0 (rounded u (max n 1)) (omega (arith, up)), le-leb (rounded u (max n 1)) m h, mul-mod-left ((max n 1 + (u - 1)) / u) u) refl)
       (omega (arith, up))
-      (λ k t q. let p = multiple-is u m k t in rounded-least u (max n 1) hu k (p .1 .1) (omega (arith, p .0)))
+      (λ k t q. let p = multiple-is u m k t in rounded-least u (max n 1) hu k (p .2) (omega (arith, p .0)))
 
   pub none-multiple : m < rounded u (max n 1) → Next (multiple u m) n 0
   none-multiple h = least-nowhere (λ k t. below k (multiple-is u m k t) (leb n k) refl)
     where
-      below : (k : ℕ) → (0 < k) × ((k ≤ m) × (k % u ≡ 0)) → (b : Bool) → leb n k ≡ b → k < n
-      below k p true q = absurd (omega (arith, rounded-least u (max n 1) hu k (p .1 .1) (omega (arith, p .0, leb-true n k q)), p .1 .0))
+      below : (k : ℕ) → (0 < k) × (k ≤ m) × (k % u ≡ 0) → (b : Bool) → leb n k ≡ b → k < n
+      below k p true q = absurd (omega (arith, rounded-least u (max n 1) hu k (p .2) (omega (arith, p .0, leb-true n k q)), p .1))
       below k p false q = leb-false n k q
 
 pub past-multiple : (u m n : ℕ) → m < n → Next (multiple u m) n 0
-past-multiple u m n h = least-nowhere (λ k t. omega (arith, multiple-is u m k t .1 .0))
+past-multiple u m n h = least-nowhere (λ k t. omega (arith, multiple-is u m k t .1))
