@@ -28,63 +28,13 @@
 //! are those of live slices that do not overlap, which is what a `&` and a `&mut` are.
 
 pub mod lte;
+mod raw;
 mod refusal;
 mod sums;
 
 pub use refusal::Refusal;
 use refusal::{answer, answer_with};
 pub use sums::Running;
-
-mod raw {
-    use super::Set;
-    extern "C" {
-        pub fn interleaver_test(set: &Set) -> u32;
-        pub fn interleaver_fitting(set: &Set) -> u32;
-        pub fn interleaver_lte_factors(k: u32, factors: &mut [u32; 4]) -> u32;
-        pub fn interleaver_address_l(set: &Set, t: u32, address: &mut u32) -> u32;
-        pub fn interleaver_address_m(set: &Set, k: u32, address: &mut u32) -> u32;
-        pub fn interleaver_walk_l(set: &Set, cell: &mut u32, out: *mut u16, len: usize, written: &mut u32, cells: &mut u32) -> u32;
-        pub fn interleaver_walk_m(set: &Set, cell: &mut u32, out: *mut u16, len: usize, written: &mut u32, cells: &mut u32) -> u32;
-        pub fn interleaver_interleave_bytes(set: &Set, src: *const u8, src_len: usize, dst: *mut u8, dst_len: usize) -> u32;
-        pub fn interleaver_deinterleave_bytes(set: &Set, src: *const u8, src_len: usize, dst: *mut u8, dst_len: usize) -> u32;
-        pub fn interleaver_interleave_soft(set: &Set, src: *const f32, src_len: usize, dst: *mut f32, dst_len: usize) -> u32;
-        pub fn interleaver_deinterleave_soft(set: &Set, src: *const f32, src_len: usize, dst: *mut f32, dst_len: usize) -> u32;
-        pub fn interleaver_interleave_symbols(set: &Set, width: u32, src: *const u8, src_len: usize, dst: *mut u8, dst_len: usize) -> u32;
-        pub fn interleaver_deinterleave_symbols(set: &Set, width: u32, src: *const u8, src_len: usize, dst: *mut u8, dst_len: usize) -> u32;
-        pub fn interleaver_add_received(
-            set: &Set,
-            received: *const f32,
-            received_len: usize,
-            present: *const u8,
-            present_len: usize,
-            sums: *mut f32,
-            sums_len: usize,
-            counts: *mut u16,
-            counts_len: usize,
-        ) -> u32;
-        pub fn interleaver_read_sum(
-            set: &Set,
-            sums: *const f32,
-            sums_len: usize,
-            counts: *const u16,
-            counts_len: usize,
-            position: u32,
-            sum: &mut f32,
-            count: &mut u16,
-        ) -> u32;
-        pub fn interleaver_dvb_start(store: *mut u8, store_len: usize, fill: u8, phase: &mut u32) -> u32;
-    }
-
-    // The two feeds, which differ in a name.
-    macro_rules! feeds {
-        ($($name:ident),*) => {
-            extern "C" {
-                $(pub fn $name(phase: &mut u32, store: *mut u8, store_len: usize, input: *const u8, input_len: usize, out: *mut u8, out_len: usize) -> u32;)*
-            }
-        };
-    }
-    feeds!(interleaver_dvb_interleave, interleaver_dvb_deinterleave);
-}
 
 /// A parameter set: a profile (1 IEEE 802.16 OFDM, 2 OFDMA, 3 IEEE 802.11a, 4 bench, 5 WCDMA turbo, 6 IEEE 802.11n at 20 MHz, 7 at 40 MHz, 8 LTE
 /// turbo), bits per carrier, the block's size N, for profiles 6 and 7 a spatial stream from 1 to 4, for profile 8 the factors f1 and f2. Each call

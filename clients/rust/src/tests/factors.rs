@@ -138,7 +138,9 @@ fn factors_are_tested_after_the_stream() {
         assert_eq!(Set::lte(40, f1, f2), Err(refusal));
         let set = Set { factors: [f1, f2, 0, 0], ..set };
         let stream = set.with_stream(2);
-        for (set, refusal) in [(set, refusal), (stream, Stream), (Set { n: 41, ..stream }, Size { fits: 48 }), (Set { bits: 2, n: 41, ..stream }, Bits)] {
+        for (set, refusal) in
+            [(set, refusal), (stream, Stream), (Set { n: 41, ..stream }, Size { fits: 48 }), (Set { bits: 2, n: 41, ..stream }, Bits)]
+        {
             let mut all = [Err(refusal); CALLS];
             all[3] = Err(Profile); // the walk for M
             assert_eq!((set.test(), said(set, 40, false), said(set, 40, true)), (Err(refusal), all, all));

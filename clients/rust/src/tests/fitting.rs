@@ -11,7 +11,8 @@ fn refusal_3_says_which_size_fits() {
     let doubled: Vec<u32> = (0..5).map(|i| 24 << i).collect();
     let halves: Vec<u32> = (1..=3).map(|i| 192 * i).collect();
     let threes: Vec<u32> = (1..=32).map(|i| 48 * i).collect();
-    let lists = [(1, 2, doubled), (2, 4, halves), (3, 4, vec![192]), (4, 6, threes), (5, 1, (40..=5114).collect()), (6, 6, vec![312]), (7, 1, vec![108])];
+    let lists =
+        [(1, 2, doubled), (2, 4, halves), (3, 4, vec![192]), (4, 6, threes), (5, 1, (40..=5114).collect()), (6, 6, vec![312]), (7, 1, vec![108])];
     for (profile, bits, sizes) in lists {
         for n in (0..=6200).chain([65_536, u32::MAX]) {
             match Set::new(profile, bits, n) {
