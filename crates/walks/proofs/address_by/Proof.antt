@@ -34,13 +34,6 @@ returns c = let e = c .before .before .before in one-past _ _ _ (accepted e) (c 
 address-requires : tie.Need-address-requires
 address-requires c κs = let e = c .before .before in (accepted e, omega (arith, c .if1 .left))
 
-cast-t12 : tie.Need-cast-t12
-cast-t12 c =
-    let i = c .before in
-    let e = i .before .before in
-    let a = e .before .before .before .args in
-    omega (arith, c .address .ensures, one-small (a .way) (a .set) (a .x) (accepted e) (omega (arith, i .if1 .left)))
-
 returns-2 : tie.Need-returns-2
 returns-2 c =
     let v = c .before .before in
@@ -61,6 +54,10 @@ address-by-spec =
     refusal-of-requires-2
     returns
     address-requires
-    cast-t12
+    (λ c.
+    let i = c .before in
+    let e = i .before .before in
+    let a = e .before .before .before .args in
+    omega (arith, c .address .ensures, one-small (a .way) (a .set) (a .x) (accepted e) (omega (arith, i .if1 .left))))
     returns-2
     returns-3)
