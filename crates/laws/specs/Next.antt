@@ -73,7 +73,7 @@ abbrev pub rounded : ℕ → ℕ → ℕ
 rounded u a = (a + (u - 1)) / u * u
 
 module _ (u a : ℕ) (hu : 0 < u) where
-  -- it is none below, and no multiple lies between
+  -- it is not below it, and no multiple lies between
   pub rounded-up : a ≤ rounded u a
   rounded-up = omega (arith, lt-div-mul-add {a = a + (u - 1)} hu)
 
