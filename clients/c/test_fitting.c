@@ -7,9 +7,17 @@ enum { TRIED = 7000, SIZES = 5114 };
 
 static int among(uint32_t x, uint32_t a, uint32_t b, uint32_t c, uint32_t d) { return x == a || x == b || x == c || x == d; }
 
+/* the numbers from first to last by a step, and how many they are */
+static unsigned steps(uint32_t *sizes, uint32_t first, uint32_t last, uint32_t step) {
+    unsigned count = 0;
+    for (; first <= last; first += step)
+        sizes[count++] = first;
+    return count;
+}
+
 /* the listed sizes of a profile and bits, rising, and how many they are */
 static unsigned list(uint32_t profile, uint32_t bits, uint32_t *sizes) {
-    uint32_t group = bits < 4 ? 1 : bits / 2, n = 0;
+    uint32_t group = bits < 4 ? 1 : bits / 2, n;
     unsigned count = 0;
     if (profile == 5 || profile == 8 ? bits != 1 : !among(bits, profile == 2 ? 2 : 1, 2, 4, 6))
         return 0;
@@ -17,34 +25,25 @@ static unsigned list(uint32_t profile, uint32_t bits, uint32_t *sizes) {
     case 1:
         for (n = 12 * bits; n <= 16 * 12 * bits; n *= 2)
             sizes[count++] = n;
-        break;
+        return count;
     case 2:
-        for (n = 48 * bits; n <= 576; n += 48 * bits)
-            sizes[count++] = n;
-        break;
+        return steps(sizes, 48 * bits, 576, 48 * bits);
     case 3:
-        sizes[count++] = 48 * bits;
-        break;
+        return steps(sizes, 48 * bits, 48 * bits, 1);
     case 4:
-        for (n = 16 * group; n <= 1536; n += 16 * group)
-            sizes[count++] = n;
-        break;
+        return steps(sizes, 16 * group, 1536, 16 * group);
     case 5:
-        for (n = 40; n <= 5114; n++)
-            sizes[count++] = n;
-        break;
+        return steps(sizes, 40, 5114, 1);
     case 6:
-        sizes[count++] = 52 * bits;
-        break;
+        return steps(sizes, 52 * bits, 52 * bits, 1);
     case 7:
-        sizes[count++] = 108 * bits;
-        break;
+        return steps(sizes, 108 * bits, 108 * bits, 1);
     case 8:
         for (n = 40; n <= 6144; n = next_k(n))
             sizes[count++] = n;
-        break;
+        return count;
     }
-    return count;
+    return 0;
 }
 
 /* one size: next is the place of the first listed one that is not below it */

@@ -1,5 +1,5 @@
 // The size that would have fitted: the least listed N not below the one asked for, worked out by the form of the profile's sizes. No list is searched:
-// of five doublings the next is taken, multiples are rounded up, a range begins at its end.
+// of five doublings the next is taken, multiples are rounded up, and of a range it is the first number, or N itself.
 use profiles::Form;
 use profiles::admitted_by;
 use profiles::group_by;

@@ -6,18 +6,6 @@ use Rattle.sets.specs.Verdict.{refusal, sayRuled, fittingOf, clear-accep
 use Rattle.sets.proofs.verdict_size.Statement.{statement}
 use Rattle.sets.proofs.verdict_size.Tie as tie
 
-ruling-of-requires : tie.Need-ruling-of-requires
-ruling-of-requires c κs = search needs
-
-enum-told : tie.Need-enum-told
-enum-told c = search needs
-
-enum-known-k : tie.Need-enum-known-k
-enum-known-k c = search needs
-
-fitting-of-requires : tie.Need-fitting-of-requires
-fitting-of-requires c κs = search needs
-
 returns : tie.Need-returns
 unfolding refusal
 returns c =
@@ -37,4 +25,4 @@ returns-3 c =
     ∙ sym (ap fittingOf (stopped-refuses _ (sym (k .before .before .before .ruling-of .ensures) ∙ ap sayRuled (k .before .k .given .1))))
 
 pub verdict-size-spec : {M : Type 1} → statement M
-verdict-size-spec = tie.close (tie.spec ruling-of-requires enum-told enum-known-k fitting-of-requires returns returns-2 returns-3)
+verdict-size-spec = tie.close (tie.spec (λ c κs. search needs) (λ c. search needs) (λ c. search needs) (λ c κs. search needs) returns returns-2 returns-3)

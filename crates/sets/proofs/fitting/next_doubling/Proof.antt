@@ -1,7 +1,9 @@
 -- `sets::fitting::next_doubling` goes through the five numbers from the least on.
-use Prim.Native.Nat.{ℕ, _<_}
+use Prim.Native.Nat.{ℕ, _*_, _<_}
+use mathlib.Core.Bool.{false}
 use mathlib.Core.Path.{_≡_}
 use native.Mathlib.Omega.{arith}
+use lib.Dec.{leb}
 use borrow.Author.Needs.{needs}
 use borrow.Author.Tests.{le-leb, lt-leb}
 use Rattle.profiles.specs.Profiles.{doubles}
@@ -35,31 +37,29 @@ returns-4 c =
     found _ _ _ (e .before .pre .0)
     (simp (lt-leb _ _ (e .if1 .left), lt-leb _ _ (d .if2 .left), lt-leb _ _ (c .before .if3 .left), le-leb _ _ (c .if4 .taken)))
 
+-- N is past the first four
+past : (c : tie.Else4)
+    → let a = c .before .before .before .before .args in
+    (leb (a .n) (a .u) ≡ false)
+    × (leb (a .n) (2 * a .u) ≡ false)
+    × (leb (a .n) (4 * a .u) ≡ false)
+    × (leb (a .n) (8 * a .u) ≡ false)
+past c = (
+  lt-leb _ _ (c .before .before .before .if1 .left),
+  lt-leb _ _ (c .before .before .if2 .left),
+  lt-leb _ _ (c .before .if3 .left),
+  lt-leb _ _ (c .if4 .left),
+)
+
 returns-5 : tie.Need-returns-5
 returns-5 c =
-    let d = c .before .before .before in
-    let e = d .before in
-    found _ _ _ (e .before .pre .0)
-    (simp (
-      lt-leb _ _ (e .if1 .left),
-      lt-leb _ _ (d .if2 .left),
-      lt-leb _ _ (c .before .before .if3 .left),
-      lt-leb _ _ (c .before .if4 .left),
-      le-leb _ _ (c .if5 .taken),
-    ))
+    let p = past (c .before) in
+    found _ _ _ (c .before .before .before .before .before .pre .0) (simp (p .0, p .1, p .2, p .3, le-leb _ _ (c .if5 .taken)))
 
 returns-6 : tie.Need-returns-6
 returns-6 c =
-    let d = c .before .before .before in
-    let e = d .before in
-    found _ _ _ (e .before .pre .0)
-    (simp (
-      lt-leb _ _ (e .if1 .left),
-      lt-leb _ _ (d .if2 .left),
-      lt-leb _ _ (c .before .before .if3 .left),
-      lt-leb _ _ (c .before .if4 .left),
-      lt-leb _ _ (c .if5 .left),
-    ))
+    let p = past (c .before) in
+    found _ _ _ (c .before .before .before .before .before .pre .0) (simp (p .0, p .1, p .2, p .3, lt-leb _ _ (c .if5 .left)))
 
 pub next-doubling-spec : {M : Type 1} → statement M
 next-doubling-spec =
