@@ -11,6 +11,7 @@ pub mod Lanes
 pub mod Perm
 pub mod Move
 pub mod Keep
+pub mod Kept
 pub mod Cut
 pub mod Ends
 pub mod Span

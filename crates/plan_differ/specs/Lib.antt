@@ -1,0 +1,4 @@
+pub mod Differences
+pub mod Seeking
+pub mod Listed
+pub mod Members

@@ -1,0 +1,5 @@
+pub mod Form
+pub mod Meets
+pub mod Lists
+pub mod Right
+pub mod Planned

@@ -1,0 +1,86 @@
+-- Two lists of addresses, position by position: where they differ, a missing or surplus place among them. And a list of a file: where it stands, and what
+-- stands in it.
+use Prim.Native.Nat.{ℕ, max, _+_, _*_, _-_, _≤_, _<_}
+use mathlib.Core.Bool.{Bool, true, not, cond, _&&_}
+use mathlib.Core.List.{List}
+use mathlib.Core.Path.{_≡_, sym, ap, ap₂, _∙_}
+use native.Mathlib.Nat.{zero-add}
+use native.Mathlib.Omega.{arith}
+use lib.Dec.{eqb, ltb}
+use lib.ListN.{length, getD}
+use borrow.Author.Tests.{lt-ltb, le-ltb}
+use Rattle.laws.specs.Run.{length-run, getD-run}
+use Rattle.laws.specs.Kept.{passing}
+use Rattle.big_end.specs.Numbers.{pairAt}
+use Rattle.plan_form.specs.declared.Listing.{Listing}
+use Rattle.plan_form.specs.declared.Place.{Place}
+use Rattle.plan_form.specs.declared.Place.the-variants.{Absent, Address}
+use Rattle.plan_form.specs.Form.{entryPlace, plansIn, offsetIn, countIn, addressesAt, listIn, formed}
+use Rattle.plan_form.specs.Meets.{formed-is, entry-inside, list-inside}
+
+-- a position is right if both lists have it, with the same address there
+abbrev pub agree : List ℕ → List ℕ → ℕ → Bool
+agree xs ys p = ltb p (length xs) && (ltb p (length ys) && eqb (getD xs p 0) (getD ys p 0))
+
+abbrev pub wrong : List ℕ → List ℕ → ℕ → Bool
+wrong xs ys p = not (agree xs ys p)
+
+-- the wrong positions from p on, below the larger length
+unfoldable pub wrongsFrom : List ℕ → List ℕ → ℕ → List ℕ
+wrongsFrom xs ys p = passing (wrong xs ys) p (max (length xs) (length ys) - p)
+
+-- all of them
+abbrev pub wrongs : List ℕ → List ℕ → List ℕ
+wrongs xs ys = wrongsFrom xs ys 0
+
+-- what stands at a position of a list
+abbrev pub placeOf : List ℕ → ℕ → Place
+placeOf l p = cond (ltb p (length l)) (Address (getD l p 0)) Absent
+
+-- the list that stands there in a file
+abbrev pub listAt : List ℕ → Listing → List ℕ
+listAt f list = addressesAt f (list .offset) (list .count)
+
+-- it lies inside the file
+pub record Inside (f : List ℕ) (list : Listing) : Type 0 where
+  pub short : length f ≤ 65536
+  pub inside : list .offset + 2 * list .count ≤ length f
+
+module _ (f : List ℕ) (list : Listing) where
+  pub listed-length : length (listAt f list) ≡ list .count
+  unfolding addressesAt
+  listed-length = length-run (λ t. pairAt f (list .offset + 2 * t)) 0 (list .count)
+
+  pub listed-address : (p : ℕ) → p < list .count → getD (listAt f list) p 0 ≡ pairAt f (list .offset + 2 * p)
+  unfolding addressesAt
+  listed-address p h =
+      getD-run (λ t. pairAt f (list .offset + 2 * t)) 0 (list .count) p 0 h ∙ ap (λ (t : ℕ). pairAt f (list .offset + 2 * t)) (zero-add p)
+
+  pub place-absent : (p : ℕ) → list .count ≤ p → Absent ≡ placeOf (listAt f list) p
+  place-absent p h = sym (rw (le-ltb p (length (listAt f list)) (omega (arith, listed-length))))
+
+  pub place-address : (p : ℕ) → p < list .count → {a : ℕ} → a ≡ pairAt f (list .offset + 2 * p) → Address a ≡ placeOf (listAt f list) p
+  place-address p h q =
+      ap Address (q ∙ sym (listed-address p h)) ∙ sym (rw (lt-ltb p (length (listAt f list)) (omega (arith, listed-length))))
+
+-- a file of the form that has plan i
+pub record Having (f : List ℕ) (i : ℕ) : Type 0 where
+  pub is-formed : formed f ≡ true
+  pub has : i < plansIn f
+
+pub having-entry : {f : List ℕ} {i : ℕ} → Having f i → entryPlace i + 20 ≤ length f
+having-entry {f} {i} h = entry-inside (formed-is f (h .is-formed)) i (h .has)
+
+-- where its list stands
+pub record Listed (f : List ℕ) (i : ℕ) (list : Listing) : Type 0 where
+  pub offset-is : list .offset ≡ offsetIn f i
+  pub count-is : list .count ≡ countIn f i
+
+module _ {f : List ℕ} {i : ℕ} {list : Listing} (l : Listed f i list) where
+  pub listed-list : listAt f list ≡ listIn f i
+  listed-list = ap₂ (addressesAt f) (l .offset-is) (l .count-is)
+
+  pub listed-inside : Having f i → Inside f list
+  listed-inside h =
+      let z = formed-is f (h .is-formed) in
+      record { short = z .short; inside = omega (arith, l .offset-is, l .count-is, list-inside z i (h .has)) }

@@ -1,0 +1,7 @@
+pub mod File
+pub mod Measuring
+pub mod Lengths
+pub mod Storing
+pub mod Listing
+pub mod Whole
+pub mod Back

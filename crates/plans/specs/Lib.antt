@@ -1,0 +1,6 @@
+pub mod Judging
+pub mod Writing
+pub mod Differing
+pub mod Laws
+pub mod Back
+pub mod Asked
