@@ -39,14 +39,14 @@ none-passed ok c (suc n) e x l h = go (ok c) refl e (none-passed ok (suc c) n)
 pub passing-mem : (ok : ℕ → Bool) (c n : ℕ) {x : ℕ} → List·Memᴰ x (passing ok c n) → (c ≤ x) × (x < c + n) × (ok x ≡ true)
 unfolding keep
 passing-mem ok c zero m = absurd (List·Memᴰ·not-nil m)
-passing-mem ok c (suc n) {x} m = go (ok c) refl m
+passing-mem ok c (suc n) {x} m = go (ok c) refl m (λ r. passing-mem ok (suc c) n r)
   where
-    later : List·Memᴰ x (passing ok (suc c) n) → (c ≤ x) × (x < c + suc n) × (ok x ≡ true)
-    later m = let r = passing-mem ok (suc c) n m in (omega (arith, r .0), omega (arith, r .1), r .2)
-
-    go : (b : Bool) → ok c ≡ b → List·Memᴰ x (cond b (c ∷ passing ok (suc c) n) (passing ok (suc c) n)) → (c ≤ x) × (x < c + suc n) × (ok x ≡ true)
-    go true q m = ⊎-elim (λ (e : x ≡ c). (omega arith, omega arith, ap ok e ∙ q)) later (List·Memᴰ·cases-cons m)
-    go false q m = later m
+    go : (b : Bool) → ok c ≡ b → List·Memᴰ x (cond b (c ∷ passing ok (suc c) n) (passing ok (suc c) n))
+        → (List·Memᴰ x (passing ok (suc c) n) → (suc c ≤ x) × (x < suc c + n) × (ok x ≡ true)) → (c ≤ x) × (x < c + suc n) × (ok x ≡ true)
+    go true q m r =
+        ⊎-elim (λ (e : x ≡ c). (omega arith, omega arith, ap ok e ∙ q)) (λ l. let h = r l in (omega (arith, h .0), omega (arith, h .1), h .2))
+        (List·Memᴰ·cases-cons m)
+    go false q m r = let h = r m in (omega (arith, h .0), omega (arith, h .1), h .2)
 
 -- the first that passes: none before it does, and behind it stand those from the next number on
 pub record Foremost (ok : ℕ → Bool) (c n p : ℕ) (ps : List ℕ) : Type 0 where

@@ -128,7 +128,7 @@ module _ (f g : List ℕ) where
     plan - 1,
     omega (arith, h .0 .some, h .0 .in-left),
     rw (lt-ltb (plan - 1) (plansIn f) (omega (arith, h .0 .some, h .0 .in-left)), lt-ltb (plan - 1) (plansIn g) (omega (arith, h .0 .some, h .0 .in-right)))
-    (rw (unlike (sameHeader (setIn f (plan - 1)) (setIn g (plan - 1))) refl) (List·Memᴰ·head (ap Header (let e : plan ≡ plan - 1 + 1 = omega (arith, h .0 .some) in e)))),
+        (rw (unlike (sameHeader (setIn f (plan - 1)) (setIn g (plan - 1))) refl) (List·Memᴰ·head (ap Header (let e : plan ≡ plan - 1 + 1 = omega (arith, h .0 .some) in e)))),
   )
     where
       unlike : (b : Bool) → sameHeader (setIn f (plan - 1)) (setIn g (plan - 1)) ≡ b → sameHeader (setIn f (plan - 1)) (setIn g (plan - 1)) ≡ false
@@ -141,11 +141,11 @@ module _ (f g : List ℕ) where
       lt-ltb (plan - 1) (plansIn f) (omega (arith, h .both-have .some, h .both-have .in-left)),
       lt-ltb (plan - 1) (plansIn g) (omega (arith, h .both-have .some, h .both-have .in-right)),
     )
-    (rw (same-says (plan - 1) (h .same-header))
-    (Memᴰ·cast
-    (ap₂ (λ (a b : Place). At plan position a b) (h .left-is) (h .right-is)
-    ∙ ap (λ (k : ℕ). At k position (placeOf (listIn f (plan - 1)) position) (placeOf (listIn g (plan - 1)) position)) (let e : plan ≡ plan - 1 + 1 = omega (arith, h .both-have .some) in e))
-    (Memᴰ·map (differenceAt f g (plan - 1)) (wrong-positions (listIn f (plan - 1)) (listIn g (plan - 1)) position .1 (h .below, h .not-right))))),
+        (rw (same-says (plan - 1) (h .same-header))
+        (Memᴰ·cast
+        (ap₂ (λ (a b : Place). At plan position a b) (h .left-is) (h .right-is)
+        ∙ ap (λ (k : ℕ). At k position (placeOf (listIn f (plan - 1)) position) (placeOf (listIn g (plan - 1)) position)) (let e : plan ≡ plan - 1 + 1 = omega (arith, h .both-have .some) in e))
+        (Memᴰ·map (differenceAt f g (plan - 1)) (wrong-positions (listIn f (plan - 1)) (listIn g (plan - 1)) position .1 (h .below, h .not-right))))),
   )
 
   -- the differences of two files are these and no others

@@ -63,13 +63,15 @@ module _ (f : List ℕ) (list : Listing) where
   place-address p h q =
       ap Address (q ∙ sym (listed-address p h)) ∙ sym (rw (lt-ltb p (length (listAt f list)) (omega (arith, listed-length))))
 
--- a file of the form that has plan i
+-- a file of the form that has plan i: the plan's entry lies inside it
 pub record Having (f : List ℕ) (i : ℕ) : Type 0 where
   pub is-formed : formed f ≡ true
   pub has : i < plansIn f
+  pub entry : entryPlace i + 20 ≤ length f
+  pub short : length f ≤ 65536
 
-pub having-entry : {f : List ℕ} {i : ℕ} → Having f i → entryPlace i + 20 ≤ length f
-having-entry {f} {i} h = entry-inside (formed-is f (h .is-formed)) i (h .has)
+pub having : {f : List ℕ} {i : ℕ} → formed f ≡ true → i < plansIn f → Having f i
+having {f} {i} e h = let z = formed-is f e in record { is-formed = e; has = h; entry = entry-inside z i h; short = z .short }
 
 -- where its list stands
 pub record Listed (f : List ℕ) (i : ℕ) (list : Listing) : Type 0 where
@@ -81,6 +83,4 @@ module _ {f : List ℕ} {i : ℕ} {list : Listing} (l : Listed f i list) where
   listed-list = ap₂ (addressesAt f) (l .offset-is) (l .count-is)
 
   pub listed-inside : Having f i → Inside f list
-  listed-inside h =
-      let z = formed-is f (h .is-formed) in
-      record { short = z .short; inside = omega (arith, l .offset-is, l .count-is, list-inside z i (h .has)) }
+  listed-inside h = record { short = h .short; inside = omega (arith, l .offset-is, l .count-is, list-inside (formed-is f (h .is-formed)) i (h .has)) }

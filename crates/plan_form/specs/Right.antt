@@ -40,7 +40,7 @@ module _ (xs ys : List ℕ) (p : ℕ) where
   wrong-not e r = let z : _≡_ {A = Bool} true false = sym (right-agree r) ∙ not-true (agree xs ys p) e in let y : _≡_ {A = ℕ} 0 1 = cc in omega arith
 
 module _ (xs ys : List ℕ) where
-  top : ℕ
+  abbrev top : ℕ
   top = max (length xs) (length ys)
 
   -- lists that are right everywhere are the same
