@@ -77,8 +77,10 @@ module _ (f g : List ℕ) where
           among (v ∷ vs) w e =
               let x : differenceAt f g i v ≡ d = cc in
               let y : map (differenceAt f g i) vs ≡ ds = cc in
-              rw (← x, ← y) (record { tail-is = λ k. inside i k v (map (differenceAt f g i) vs)
-                  (ap (map (differenceAt f g i)) (wrongs-tail (listIn f i) (listIn g i) p v vs w) ∙ sym (rw (q, r))) })
+              rw (← x, ← y) (record {
+                tail-is = λ k. inside i k v (map (differenceAt f g i) vs)
+                    (ap (map (differenceAt f g i)) (wrongs-tail (listIn f i) (listIn g i) p v vs w) ∙ sym (rw (q, r)));
+              })
 
   some-tail : (k i p : ℕ) (d : Difference) (ds : List Difference) → someDiffer f g k i p ≡ d ∷ ds
       → ds ≡ someDiffer f g (i + k - planAfter d) (planAfter d) (placeAfter d)
@@ -117,10 +119,9 @@ module _ (f g : List ℕ) where
 
   -- in file order: those of the first plan, then those of the second, and so on
   pub file-order : differences f g ≡ chained (λ i. planDiffers f g i 0) (run (λ i. i) 0 (max (plansIn f) (plansIn g)))
-  unfolding differFrom
+  unfolding differFrom someDiffer
   file-order = ap (λ (k : ℕ). someDiffer f g k 0 0) (sub-zero (max (plansIn f) (plansIn g))) ∙ go (max (plansIn f) (plansIn g)) 0
     where
       go : (k i : ℕ) → someDiffer f g k i 0 ≡ chained (λ i. planDiffers f g i 0) (run (λ i. i) i k)
-      unfolding someDiffer
       go zero i = refl
       go (suc k) i = ap (λ (l : List Difference). planDiffers f g i 0 ++ l) (go k (suc i))

@@ -13,7 +13,7 @@ use Rattle.laws.specs.Members.{fails, passes}
 use Rattle.big_end.specs.Numbers.{pairAt}
 use Rattle.plan_form.specs.declared.Listing.{Listing}
 use Rattle.plan_form.specs.declared.Place.{Place}
-use Rattle.plan_form.specs.Form.{plansIn, setIn, listIn, formed}
+use Rattle.plan_form.specs.Form.{plansIn, setIn, listIn}
 use Rattle.plan_form.specs.Lists.{agree, wrongsFrom, placeOf, listAt, Inside, Listed, listed-length, listed-address, listed-list}
 use Rattle.plan_differ.specs.declared.Difference.{Difference}
 use Rattle.plan_differ.specs.declared.Difference.the-variants.{Missing, Header, At}
@@ -27,11 +27,6 @@ use Rattle.plan_differ.specs.Differences.{sameHeader, differenceAt, list
 abbrev pub Below : Sought → Type 0
 Below (sought.Position p) = p < 65536
 Below sought.Nothing = Unit {0}
-
--- two files of the form
-pub record Files (f g : List ℕ) : Type 0 where
-  pub left : formed f ≡ true
-  pub right : formed g ≡ true
 
 -- at a position of two lists
 module _ (f g : List ℕ) (a b : Listing) (p : ℕ) where

@@ -5,9 +5,9 @@ use plan_form::Place;
 ghost use mathlib.Core.Path.{_≡_};
 ghost use Prim.Native.Nat.{max, _<_};
 ghost use Rattle.plan_form.specs.Form.{setIn};
-ghost use Rattle.plan_form.specs.Lists.{Inside, Having, agree, wrongsFrom, listAt};
+ghost use Rattle.plan_form.specs.Lists.{Inside, Proper, Having, agree, wrongsFrom, listAt};
 ghost use Rattle.plan_differ.specs.Differences.{sameHeader, soughtOf, nextOf, listsDiffer, planDiffers, differFrom};
-ghost use Rattle.plan_differ.specs.Seeking.{Below, Files};
+ghost use Rattle.plan_differ.specs.Seeking.{Below};
 
 // A difference: a plan that only one file has, a plan with another profile, bits or N, or a position with what stands there in each file.
 pub enum Difference {
@@ -85,40 +85,47 @@ fn differ_lists(left: &[u8], right: &[u8], i: usize, from: usize) -> Next
     requires { ⌜ Having (now left) i × Having (now right) i × (i < 16) ⌝ }
     ensures { λ r. ⌜ r ≡ nextOf (listsDiffer (now (left .entry)) (now (right .entry)) i from) ⌝ }
 {
+    let plan = (i + 1) as u32;
     let one = plan_form::listing_at(left, i);
     let two = plan_form::listing_at(right, i);
     let s = seek(left, one, right, two, from);
     match s {
         Sought::Nothing => Next::Nothing,
-        Sought::Position(p) => Next::One(Difference::At {
-            plan: (i + 1) as u32,
-            position: p as u32,
-            left: plan_form::place_at(left, one, p),
-            right: plan_form::place_at(right, two, p),
-        }),
+        Sought::Position(p) => {
+            let position = p as u32;
+            let here = plan_form::place_at(left, one, p);
+            let there = plan_form::place_at(right, two, p);
+            Next::One(Difference::At {
+                plan,
+                position,
+                left: here,
+                right: there,
+            })
+        }
     }
 }
 
 // The next difference of plan i, from a position on.
 fn differ_plan(left: &[u8], right: &[u8], i: usize, from: usize) -> Next
-    requires { ⌜ Files (now left) (now right) × (i < 16) ⌝ }
+    requires { ⌜ Proper (now left) × Proper (now right) × (i < 16) ⌝ }
     ensures { λ r. ⌜ r ≡ nextOf (planDiffers (now (left .entry)) (now (right .entry)) i from) ⌝ }
 {
+    let plan = (i + 1) as u32;
     if plan_form::plans_in(left) <= i {
-        return Next::One(Difference::Missing((i + 1) as u32));
+        return Next::One(Difference::Missing(plan));
     }
     if plan_form::plans_in(right) <= i {
-        return Next::One(Difference::Missing((i + 1) as u32));
+        return Next::One(Difference::Missing(plan));
     }
     if !same_header(left, right, i) {
-        return Next::One(Difference::Header((i + 1) as u32));
+        return Next::One(Difference::Header(plan));
     }
     differ_lists(left, right, i, from)
 }
 
 // The next difference of two files, from position `from` of plan i on.
 pub fn differ_from(left: &[u8], right: &[u8], i: usize, from: usize) -> Next
-    requires { ⌜ Files (now left) (now right) ⌝ }
+    requires { ⌜ Proper (now left) × Proper (now right) ⌝ }
     ensures { λ r. ⌜ r ≡ nextOf (differFrom (now (left .entry)) (now (right .entry)) i from) ⌝ }
 {
     let most = larger(plan_form::plans_in(left), plan_form::plans_in(right));
