@@ -106,11 +106,15 @@ module _ (s : Set) (e : Accepted s) {w : Standing} (h : Stands s w) where
       pub cells-in : w .cell + cells ≤ ruleOf s .total
       cells-in = rw cells-are (cells-within (s .n) (ruleOf s) (w .cell) (length old) (h .within))
 
+      behind-next : passedBy (s .n) (ruleOf s) (w .cell + cells)
+          ≡ passedBy (s .n) (ruleOf s) (w .cell) + length (walkList (s .n) (ruleOf s) (w .cell) (length old))
+      behind-next = rw cells-are (passed-on (s .n) (ruleOf s) (w .cell) (length old))
+
       pub piece-next : Pieced s w old new (record { at = w .at + written; cell = w .cell + cells })
       piece-next = record {
         stands = record {
           within = cells-in;
-          behind = rw cells-are (passed-on (s .n) (ruleOf s) (w .cell) (length old)) ∙ omega (arith, h .behind, written-is);
+          behind = omega (arith, behind-next, h .behind, written-is);
           inside = omega (arith, written-min, h .inside);
         };
         moved = omega (arith, written-min);

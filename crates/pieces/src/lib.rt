@@ -29,9 +29,10 @@ pub fn next(set: Set, from: Standing, piece: &mut [u16]) -> Standing
     let leaf = leaves::walk(Way::Interleaver, set, from.cell, piece);
     match leaf {
         Leaf::Stopped(_) => from,
-        Leaf::Went { written, cells } => Standing {
-            at: from.at + written,
-            cell: from.cell + cells,
-        },
+        Leaf::Went { written, cells } => {
+            let at = from.at + written;
+            let cell = from.cell + cells;
+            Standing { at, cell }
+        }
     }
 }
