@@ -3,7 +3,7 @@
 use laws::Leaf;
 use laws::Way;
 use sets::Set;
-ghost use lib.ListN.{length};
+ghost use mathlib.Core.Path.{_≡_};
 ghost use Rattle.sets.specs.Admits.{Accepted};
 ghost use Rattle.pieces.specs.Pieces.{Stands, Pieced};
 
@@ -15,8 +15,7 @@ pub struct Standing {
 
 // Before the first address.
 pub fn begin(set: Set) -> Standing
-    requires { ⌜ Accepted set ⌝ }
-    ensures { λ r. ⌜ Stands set r ⌝ }
+    ensures { λ r. ⌜ (r .at ≡ 0) × Stands set r ⌝ }
 {
     Standing { at: 0, cell: 0 }
 }

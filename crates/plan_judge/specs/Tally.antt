@@ -1,8 +1,8 @@
 -- The tally of some positions: the first of them, and how many. What is tallied along a piece of L, and from piece to piece, is the tally of the wrong
 -- positions.
-use Prim.Native.Nat.{ℕ, suc, min, max, _+_, _-_, _≤_, _<_}
+use Prim.Native.Nat.{ℕ, suc, max, _+_, _*_, _-_, _≤_, _<_}
 use mathlib.Core.Bool.{Bool, true, false, not, cond, _&&_}
-use mathlib.Core.List.{List, [], _∷_, _++_}
+use mathlib.Core.List.{List, [], _∷_, _++_, append-nil}
 use mathlib.Core.Path.{_≡_, refl, sym, ap, ap₂, _∙_}
 use native.Mathlib.Nat.{add-zero, zero-add, sub-zero}
 use native.Mathlib.Omega.{arith}
@@ -43,7 +43,7 @@ tallied-none t = ap₂ tally (go (eqb (t .count) 0)) (add-zero (t .count))
     go false = refl
 
 pub tallied-join : (t : Tally) (ps qs : List ℕ) → tallied (tallied t ps) qs ≡ tallied t (ps ++ qs)
-tallied-join t [] qs = rw (tallied-none t)
+tallied-join t [] qs = ap (λ (x : Tally). tallied x qs) (tallied-none t)
 tallied-join t (p ∷ ps) qs =
     ap₂ tally (go (eqb (t .count) 0) refl) (omega (arith, length-append ps qs))
   where
@@ -84,6 +84,17 @@ module _ (f : List ℕ) (list : Listing) (p a : ℕ) where
       ap (λ (x : ℕ). eqb x a) (q ∙ sym (listed-address f list p h))
       ∙ sym (rw (lt-ltb p (length (listAt f list)) (omega (arith, listed-length f list))))
 
+-- the tally with a position more, at which L has this address
+abbrev pub tallyNext : List ℕ → ℕ → ℕ → Tally → Tally
+tallyNext xs p a t = cond (among xs p a) t (tallied t (p ∷ []))
+
+module _ (xs : List ℕ) (p a : ℕ) (t : Tally) {b : Bool} (e : b ≡ among xs p a) where
+  pub next-right : b ≡ true → t ≡ tallyNext xs p a t
+  next-right q = sym (rw (sym e ∙ q))
+
+  pub next-wrong : b ≡ false → {t' : Tally} → t' ≡ tallied t (run (λ p. p) p 1) → t' ≡ tallyNext xs p a t
+  next-wrong q g = g ∙ sym (rw (sym e ∙ q))
+
 -- a position is wrong beside a piece that stands at `at` and on
 abbrev pub beside : List ℕ → ℕ → List ℕ → ℕ → Bool
 beside xs at piece p = not (among xs p (getD piece (p - at) 0))
@@ -105,34 +116,43 @@ unfolding keep
 along-first xs at piece t written h = record { here = omega arith; few = omega arith; same = sym (tallied-none t) }
 
 -- one position more
-one-more : (ok : ℕ → Bool) (c n : ℕ) → passing ok c (n + 1) ≡ passing ok c n ++ cond (ok (c + n)) (c + n ∷ []) []
+one-more : (ok : ℕ → Bool) (c n : ℕ) → passing ok c (n + 1) ≡ passing ok c n ++ cond (ok (c + n)) ((c + n) ∷ []) []
 unfolding keep
 one-more ok c n = keep-cut (λ p. p) ok c n 1
 
-module _ {xs : List ℕ} {at : ℕ} {piece : List ℕ} {t₀ t : Tally} {j written : ℕ} (r : Along xs at piece t₀ t j written) (h : j < written)
-    {b : Bool} (e : b ≡ among xs (at + j) (getD piece j 0)) where
-  its-test : beside xs at piece (at + j) ≡ not b
-  its-test = ap not (ap (λ (k : ℕ). among xs (at + j) (getD piece k 0)) (let z : at + j - at ≡ j = omega arith in z) ∙ sym e)
+module _ {xs : List ℕ} {at : ℕ} {piece : List ℕ} {t₀ t : Tally} {j written : ℕ} (r : Along xs at piece t₀ t j written) where
+  pub along-end : written ≤ j → t ≡ tallied t₀ (passing (beside xs at piece) at written)
+  along-end h = r .same ∙ ap (λ (k : ℕ). tallied t₀ (passing (beside xs at piece) at k)) (let e : j ≡ written = omega (arith, r .here) in e)
 
-  pub along-right : not b ≡ false → Along xs at piece t₀ t (j + 1) written
-  along-right q = record {
-    here = omega arith;
-    few = omega (arith, r .few);
-    same = r .same ∙ sym (ap (tallied t₀) (one-more (beside xs at piece) at j ∙ rw (its-test ∙ q) (end (passing (beside xs at piece) at j))));
-  }
+  pub along-more : j < written → {a : ℕ} → a ≡ getD piece j 0 → {t' : Tally} → t' ≡ tallyNext xs (at + j) a t → Along xs at piece t₀ t' (j + 1) written
+  along-more h {a} q {t'} g = go (among xs (at + j) a) refl
     where
-      end : (l : List ℕ) → l ++ [] ≡ l
-      end [] = refl
-      end (x ∷ l) = ap (λ (m : List ℕ). x ∷ m) (end l)
+      its-test : beside xs at piece (at + j) ≡ not (among xs (at + j) a)
+      its-test = ap not (ap (λ (k : ℕ). among xs (at + j) (getD piece k 0)) (let z : at + j - at ≡ j = omega arith in z) ∙ ap (among xs (at + j)) (sym q))
 
-  pub along-wrong : not b ≡ true → {t' : Tally} → t' ≡ tallied t (at + j ∷ []) → Along xs at piece t₀ t' (j + 1) written
-  along-wrong q {t'} g = record {
-    here = omega arith;
-    few = omega (arith, ap (λ (x : Tally). x .count) g, r .few);
-    same =
-        g ∙ ap (λ (x : Tally). tallied x (at + j ∷ [])) (r .same) ∙ tallied-join t₀ (passing (beside xs at piece) at j) (at + j ∷ [])
-        ∙ sym (ap (tallied t₀) (one-more (beside xs at piece) at j ∙ rw (its-test ∙ q)));
-  }
+      grown : (b : Bool) → among xs (at + j) a ≡ b
+          → passing (beside xs at piece) at (j + 1) ≡ passing (beside xs at piece) at j ++ cond (not b) ((at + j) ∷ []) []
+      grown b e =
+          one-more (beside xs at piece) at j
+          ∙ ap (λ (b : Bool). passing (beside xs at piece) at j ++ cond b ((at + j) ∷ []) []) (its-test ∙ ap not e)
+
+      go : (b : Bool) → among xs (at + j) a ≡ b → Along xs at piece t₀ t' (j + 1) written
+      go true e =
+          let same-t : t' ≡ t = g ∙ rw e in
+          record {
+            here = omega arith;
+            few = omega (arith, ap (λ (x : Tally). x .count) same-t, r .few);
+            same = same-t ∙ r .same ∙ sym (ap (tallied t₀) (grown true e ∙ append-nil (passing (beside xs at piece) at j)));
+          }
+      go false e =
+          let more-t : t' ≡ tallied t ((at + j) ∷ []) = g ∙ rw e in
+          record {
+            here = omega arith;
+            few = omega (arith, ap (λ (x : Tally). x .count) more-t, r .few);
+            same =
+                more-t ∙ ap (λ (x : Tally). tallied x ((at + j) ∷ [])) (r .same) ∙ tallied-join t₀ (passing (beside xs at piece) at j) ((at + j) ∷ [])
+                ∙ sym (ap (tallied t₀) (grown false e));
+          }
 
 -- from piece to piece: the positions before the next piece are tallied
 pub record Comparing (s : Set) (xs : List ℕ) (w : Standing) (t : Tally) : Type 0 where
@@ -148,7 +168,7 @@ listed-at : (s : Set) (p : ℕ) → p < s .n → getD (listOf s) p 0 ≡ L s p
 listed-at s p h = getD-run (L s) 0 (s .n) p 0 h ∙ ap (L s) (zero-add p)
 
 module _ {s : Set} {xs : List ℕ} {w : Standing} {t : Tally} (r : Comparing s xs w t) {old new : List ℕ} {v : Standing} (q : Pieced s w old new v) where
-  size : ℕ
+  abbrev size : ℕ
   size = v .at - w .at
 
   at-is : v .at ≡ w .at + size

@@ -10,7 +10,7 @@ ghost use Rattle.laws.specs.Run.{run};
 ghost use Rattle.sets.specs.Admits.{Accepted};
 ghost use Rattle.pieces.specs.Pieces.{listOf};
 ghost use Rattle.plan_form.specs.Lists.{Inside, listAt, wrongs};
-ghost use Rattle.plan_judge.specs.Tally.{tallied, tallyOf, among, beside, Tallying};
+ghost use Rattle.plan_judge.specs.Tally.{tallied, tallyOf, among, tallyNext, beside, Tallying};
 
 // How many positions were wrong so far, and the first of them; 0 where there is none.
 pub struct Tally {
@@ -27,15 +27,15 @@ fn more_wrong(tally: Tally, from: usize, more: usize) -> Tally
     if more == 0 {
         return tally;
     }
+    let many = more as u32;
     if count == 0 {
-        return Tally {
-            first: from as u32,
-            count: more as u32,
-        };
+        let first = from as u32;
+        return Tally { first, count: many };
     }
+    let all = count + many;
     Tally {
         first: tally.first,
-        count: count + more as u32,
+        count: all,
     }
 }
 
@@ -48,6 +48,17 @@ fn is_at(file: &[u8], list: Listing, p: usize, address: u16) -> bool
         return false;
     }
     big_end::pair_at(file, list.offset + 2 * p) == address
+}
+
+// Tallies a position, at which L has this address.
+fn tally_at(file: &[u8], list: Listing, p: usize, address: u16, tally: Tally) -> Tally
+    requires { ⌜ Inside (now file) list × (tally .count ≤ p) × (p < 4294967295) ⌝ }
+    ensures { λ r. ⌜ r ≡ tallyNext (listAt (now (file .entry)) list) p address tally ⌝ }
+{
+    if is_at(file, list, p, address) {
+        return tally;
+    }
+    more_wrong(tally, p, 1)
 }
 
 // Tallies a piece of L, its first `written` addresses, which stand at position `at` and on.
@@ -65,9 +76,7 @@ fn tally_piece(
     let mut t = tally;
     let mut j = 0;
     while j < written {
-        if !is_at(file, list, at + j, piece[j]) {
-            t = more_wrong(t, at + j, 1);
-        }
+        t = tally_at(file, list, at + j, piece[j], t);
         j += 1;
     }
     t
