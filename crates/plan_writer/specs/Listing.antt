@@ -60,24 +60,21 @@ module _ {s : Set} {out₀ : List ℕ} {at : ℕ} {w : Standing} {out : List ℕ
   pub file-end : s .n ≤ w .at → out ≡ sets out₀ at (listBytes (listOf s))
   file-end h = j .same ∙ ap (λ (k : ℕ). sets out₀ at (listBytes (run (L s) 0 k))) (let e : w .at ≡ s .n = omega (arith, j .stands .inside) in e)
 
-  pub file-more : {old new : List ℕ} {v : Standing} → Pieced s w old new v → {out' : List ℕ}
-      → out' ≡ sets out (at + 2 * w .at) (listBytes (take (v .at - w .at) new)) → Filing s out₀ at v out'
-  file-more {old} {new} {v} q {out'} e = record {
-    stands = q .stands;
-    size = ap length e ∙ length-sets out (at + 2 * w .at) (listBytes (take (v .at - w .at) new)) ∙ j .size;
-    same =
-        e ∙ ap (λ (l : List ℕ). sets out (at + 2 * w .at) (listBytes l)) (q .list)
-        ∙ sym (sets-then out₀ at (at + 2 * w .at) (listBytes front) (listBytes back) (j .same) (omega (arith, list-length front, length-run (L s) 0 (w .at))))
-        ∙ ap (sets out₀ at) (sym (list-join front back) ∙ ap listBytes (sym whole));
-  }
-    where
-      front : List ℕ
-      front = run (L s) 0 (w .at)
+  module _ {old new : List ℕ} {v : Standing} (q : Pieced s w old new v) where
+    in-two : run (L s) 0 (v .at) ≡ run (L s) 0 (w .at) ++ run (L s) (w .at) (v .at - w .at)
+    in-two =
+        run-cut (L s) 0 (v .at) (w .at) (omega (arith, q .moved))
+        ∙ ap (λ (k : ℕ). run (L s) 0 (w .at) ++ run (L s) k (v .at - w .at)) (zero-add (w .at))
 
-      back : List ℕ
-      back = run (L s) (w .at) (v .at - w .at)
-
-      whole : run (L s) 0 (v .at) ≡ front ++ back
-      whole =
-          run-cut (L s) 0 (v .at) (w .at) (omega (arith, q .moved))
-          ∙ ap (λ (k : ℕ). front ++ run (L s) k (v .at - w .at)) (zero-add (w .at))
+    pub file-more : {out' : List ℕ} → out' ≡ sets out (at + 2 * w .at) (listBytes (take (v .at - w .at) new)) → Filing s out₀ at v out'
+    file-more {out'} e =
+        let front = run (L s) 0 (w .at) in
+        let back = run (L s) (w .at) (v .at - w .at) in
+        record {
+          stands = q .stands;
+          size = ap length e ∙ length-sets out (at + 2 * w .at) (listBytes (take (v .at - w .at) new)) ∙ j .size;
+          same =
+              e ∙ ap (λ (l : List ℕ). sets out (at + 2 * w .at) (listBytes l)) (q .list)
+              ∙ sym (sets-then out₀ at (at + 2 * w .at) (listBytes front) (listBytes back) (j .same) (omega (arith, list-length front, length-run (L s) 0 (w .at))))
+              ∙ ap (sets out₀ at) (sym (list-join front back) ∙ ap listBytes (sym in-two));
+        }

@@ -47,7 +47,7 @@ module _ {f : ℕ → Set} {count bytes i : ℕ} (t : Measuring f count bytes i)
   measuring-end h = measure-none bytes ∙ sym (rw (let e : count - i ≡ 0 = omega arith in e)) ∙ t .same
 
   module _ (h : i < count) {s : Set} (q : s ≡ f i) where
-    rest : List Set
+    abbrev rest : List Set
     rest = run f (i + 1) (count - (i + 1))
 
     from-here : measuredOf (s ∷ rest) bytes ≡ measuredOf (run f 0 count) (entryPlace count)

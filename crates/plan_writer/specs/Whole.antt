@@ -25,7 +25,7 @@ sets-whole o v e =
     front (x ∷ xs) = refl
 
 module _ {numbers : List ℕ} {count : ℕ} (o₀ : List ℕ) (z : Filed numbers count (length o₀)) where
-  sets-of : List Set
+  abbrev sets-of : List Set
   sets-of = run (setAt numbers) 0 count
 
   many : length sets-of ≡ count

@@ -28,10 +28,13 @@ fn set_of(numbers: &[u32], i: usize) -> Set
     ensures { λ r. ⌜ r ≡ setAt (now (numbers .entry)) i ⌝ }
 {
     let at = 3 * i;
+    let profile = numbers[at];
+    let bits = numbers[at + 1];
+    let n = numbers[at + 2];
     Set {
-        profile: numbers[at],
-        bits: numbers[at + 1],
-        n: numbers[at + 2],
+        profile,
+        bits,
+        n,
         stream: 1,
         factors: NO_FACTORS,
     }
@@ -51,7 +54,8 @@ pub fn measure(numbers: &[u32], count: usize) -> Measured
                 return Measured::Refused(sets::refusal_of(set, k));
             }
             Ruled::Clear => {
-                bytes += 2 * (set.n as usize);
+                let n = set.n as usize;
+                bytes += 2 * n;
                 i += 1;
             }
         }
