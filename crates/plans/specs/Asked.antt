@@ -45,14 +45,16 @@ module _ (f g : List ℕ) where
       none : (l : List Difference) → nextOf l ≡ Nothing → [] ≡ l
       none [] e = refl
       none (d ∷ l) e = let z : _≡_ {A = ℕ} 0 1 = cc in absurd (omega arith)
-  told-are (more {plan} {position} {d} {ds} e a) = go (differFrom f g (plan - 1) position) refl (said plan position e)
+  told-are (more {plan} {position} {d} {ds} e a) = go (differFrom f g (plan - 1) position) refl (said plan position e) (told-are a)
     where
-      go : (l : List Difference) → differFrom f g (plan - 1) position ≡ l → nextOf l ≡ One d → d ∷ ds ≡ l
-      go [] q e = let z : _≡_ {A = ℕ} 0 1 = cc in absurd (omega arith)
-      go (x ∷ l) q e =
-          let y : x ≡ d = cc in
-          let t = differ-tail f g (plan - 1) position x l q in
-          ap₂ _∷_ (sym y) (told-are a ∙ ap₂ (differFrom f g) (after-is d) refl ∙ ap (λ (c : Difference). differFrom f g (planAfter c) (placeAfter c)) (sym y) ∙ sym t)
+      go : (l : List Difference) → differFrom f g (plan - 1) position ≡ l → nextOf l ≡ One d → ds ≡ differFrom f g (planNext d - 1) (placeAfter d) → d ∷ ds ≡ l
+      go [] q e r = let z : _≡_ {A = ℕ} 0 1 = cc in absurd (omega arith)
+      go (x ∷ l) q e r =
+          let y : d ≡ x = cc in
+          ap₂ (λ (c : Difference) (cs : List Difference). c ∷ cs) y
+          (r ∙ ap (λ (i : ℕ). differFrom f g i (placeAfter d)) (after-is d)
+          ∙ ap (λ (c : Difference). differFrom f g (planAfter c) (placeAfter c)) y
+          ∙ sym (differ-tail f g (plan - 1) position x l q))
 
   -- and of two files of the form all of them are told
   module _ (a : formed f ≡ true) (b : formed g ≡ true) where

@@ -27,7 +27,7 @@ unfolding setAt
 of-three l i zero = tt
 of-three l i (suc k) = (refl, of-three l (suc i) k)
 
-module _ {l : List ℕ} {b : ℕ} (q : lengthOf l ≡ done b) where
+module _ (l : List ℕ) {b : ℕ} (q : lengthOf l ≡ done b) where
   many : length (setsIn l) ≡ length l / 3
   many = length-run (setAt l) 0 (length l / 3)
 

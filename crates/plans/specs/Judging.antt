@@ -102,6 +102,12 @@ judged-apart = apart sayJudged read same-again
     same-again (Wrong f c) = refl
     same-again (Refused x) = refl
 
+pub told-equal : (t : Tally) → t .count ≡ 0 → same ≡ comparedAs t
+told-equal t e = sym (rw (eq-eqb (t .count) 0 e))
+
+pub told-wrong : (t : Tally) → (t .count ≡ 0 → ⊥) → wrong (t .first) (t .count) ≡ comparedAs t
+told-wrong t n = sym (rw (ne-eqb (t .count) 0 n))
+
 -- counting, return by return. 12 and 4 carry nothing of a set
 module _ (f : List ℕ) where
   pub counted-refused : formed f ≡ false → refused (record { number = 12; size = 0 }) ≡ countedOf f
@@ -113,7 +119,7 @@ module _ (f : List ℕ) where
   counted-plans e q = ap done q ∙ sym (simp e)
 
 -- a plan, return by return
-module _ {f : List ℕ} {i : ℕ} {s : Set} (q : s ≡ setIn f i) where
+module _ (f : List ℕ) (i : ℕ) {s : Set} (q : s ≡ setIn f i) where
   pub planned-stops : {k : ℕ} → first (plannedLines s) ≡ stopped k → {x : Refusal} → x ≡ refusal s k → refused x ≡ plannedOf f i
   unfolding plannedOf
   planned-stops e r = ap refused r ∙ rw (← q) (sym (rw e))

@@ -36,7 +36,8 @@ pub fn count(file: &[u8]) -> Counted
     if !plan_form::well_formed(file) {
         return Counted::Refused(UNFORMED);
     }
-    Counted::Plans(plan_form::plans_in(file) as u32)
+    let plans = plan_form::plans_in(file) as u32;
+    Counted::Plans(plans)
 }
 
 // What a tally says.

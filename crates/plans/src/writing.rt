@@ -46,7 +46,8 @@ pub fn length_of(numbers: &[u32]) -> Length
             if bytes > ROOM {
                 return Length::Refused(UNFORMED);
             }
-            Length::Bytes(bytes as u32)
+            let long = bytes as u32;
+            Length::Bytes(long)
         }
     }
 }
