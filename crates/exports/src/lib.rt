@@ -3,5 +3,5 @@
 pub mod lists; // lists.rt: the test of a set, the size that would have fitted, LTE's own factors, addresses, walks
 pub mod moves; // moves.rt: whole blocks
 pub mod sums; // sums.rt: receptions added up
-pub mod plans; // plans.rt: plan files
+pub mod plan_files; // plan_files.rt: plan files
 pub mod dvb; // dvb.rt: the byte stream

@@ -1,0 +1,100 @@
+// `plans`: the file of given sets, three arguments a set, on standard output. A refusal is said on standard error, and then nothing is written.
+use libc::STDERR_FILENO;
+use libc::STDOUT_FILENO;
+use numbers::Number;
+use plans::writing::Length;
+use plans::writing::Written;
+use sets::Refusal;
+use told::Command;
+use words::arguments::LONGEST;
+
+// The numbers of one set more than a file may have, so that too many are seen to be.
+const NUMBERS: usize = 51;
+
+// The arguments before them: the program, and `plans`.
+const FIRST: usize = 2;
+
+// A file has at most so many bytes.
+const BYTES: usize = 65536;
+
+fn refused(x: Refusal) {
+    words::text::say_refusal(STDERR_FILENO, x.number, x.size);
+}
+
+// The number that argument i says.
+fn number(i: usize) -> Number {
+    let mut one = [0u8; LONGEST];
+    let k = os::arg(i, &mut one);
+    numbers::read(&one[..k])
+}
+
+// Takes `count` arguments as numbers, as far as there is room. Answers whether all are numbers.
+fn take_numbers(numbers: &mut [u32; NUMBERS], count: usize) -> bool {
+    let mut k = 0;
+    while k < NUMBERS {
+        if k >= count {
+            return true;
+        }
+        match number(FIRST + k) {
+            Number::Value(v) => {
+                numbers[k] = v;
+            }
+            Number::Wrong => {
+                return false;
+            }
+        }
+        k += 1;
+    }
+    true
+}
+
+fn write_bytes(numbers: &[u32], out: &mut [u8]) {
+    match plans::writing::write(numbers, out) {
+        Written::Done => {
+            words::text::write(STDOUT_FILENO, out);
+        }
+        Written::Refused(x) => refused(x),
+    }
+}
+
+fn write_file(numbers: &[u32]) {
+    match plans::writing::length_of(numbers) {
+        Length::Refused(x) => refused(x),
+        Length::Bytes(b) => {
+            let mut out = [0u8; BYTES];
+            let n = b as usize;
+            if n <= BYTES {
+                write_bytes(numbers, &mut out[..n]);
+            }
+        }
+    }
+}
+
+fn write_first(numbers: &[u32; NUMBERS], count: usize) {
+    if count < NUMBERS {
+        write_file(&numbers[..count]);
+    } else {
+        write_file(numbers);
+    }
+}
+
+// How many arguments stand behind the command.
+fn given() -> usize {
+    let n = os::arg_count();
+    if n >= FIRST { n - FIRST } else { 0 }
+}
+
+// Writes the file of the sets that the arguments give.
+pub fn write() {
+    let count = given();
+    let mut numbers = [0u32; NUMBERS];
+    if (count == 0) | (count % 3 != 0) {
+        told::usage(Command::Plans);
+        return;
+    }
+    if !take_numbers(&mut numbers, count) {
+        told::usage(Command::Plans);
+        return;
+    }
+    write_first(&numbers, count);
+}
