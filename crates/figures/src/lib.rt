@@ -1,6 +1,6 @@
 // Soft values as a program meets them: in the files that its arguments name, four bytes each, and in decimal.
 pub mod decimal; // decimal.rt: an f32 in decimal, exactly
-mod files; // files.rt: the bytes of a file
+mod bytes; // bytes.rt: the bytes of a file
 mod values; // values.rt: the values of a reception, and which are there
 
 use sets::Set;
@@ -48,7 +48,7 @@ pub fn reception(
     let mut bytes = [0u8; BYTES];
     let n = size_of(set);
     let most = 4 * n + 4;
-    match files::read(i, &mut bytes[..most]) {
+    match bytes::read(i, &mut bytes[..most]) {
         Got::Failed => Got::Failed,
         Got::Of(k) => decoded(values::count(k, n), &bytes, received, present),
     }

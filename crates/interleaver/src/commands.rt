@@ -58,6 +58,19 @@ fn moving(w: &[u8]) -> Command {
     if same(w, b"combine") {
         return Command::Combine;
     }
+    of_plans(w)
+}
+
+fn of_plans(w: &[u8]) -> Command {
+    if same(w, b"judge") {
+        return Command::Judge;
+    }
+    if same(w, b"differ") {
+        return Command::Differ;
+    }
+    if same(w, b"plans") {
+        return Command::Plans;
+    }
     Command::Unknown
 }
 
@@ -95,8 +108,8 @@ pub fn in_form(c: Command, line: &[u8]) -> bool {
     match c {
         Command::Help => has_only(line, 0) | has_only(line, 1),
         Command::Profiles | Command::Lines => has_only(line, 1),
-        Command::Factors => has_only(line, 2),
-        Command::Dvb => has_only(line, 3),
+        Command::Factors | Command::Judge => has_only(line, 2),
+        Command::Dvb | Command::Differ => has_only(line, 3),
         Command::Burst => has_only(line, 4),
         Command::BurstPicture => {
             same(word(line, 2), b"burst") & (has_only(line, 3) | has_only(line, 5))

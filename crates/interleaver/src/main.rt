@@ -13,7 +13,7 @@ use numbers::Number;
 use told::Command;
 use words::line::Line;
 
-// So many arguments that are not named are looked at, which is more than any command takes, but for the files of `combine`.
+// So many arguments that are not named are looked at, which is more than any command takes, but for the files of `combine` and the sets of `plans`.
 const MOST: usize = 8;
 
 // What a question on a set answers.
@@ -178,6 +178,9 @@ fn answer_line(line: &[u8]) {
         | Command::Deinterleave
         | Command::Dvb
         | Command::Combine
+        | Command::Judge
+        | Command::Differ
+        | Command::Plans
         | Command::Lines => told::expected(b"a question, as lines answers only those"),
         _ => {
             if commands::in_form(c, line) {
@@ -196,6 +199,10 @@ fn obey(line: &[u8]) {
         combine();
         return;
     }
+    if let Command::Plans = c {
+        plan_pages::written::write();
+        return;
+    }
     if !commands::in_form(c, line) {
         told::usage(c);
         return;
@@ -205,6 +212,8 @@ fn obey(line: &[u8]) {
         Command::Interleave => move_blocks(Way::Interleaver, line),
         Command::Deinterleave => move_blocks(Way::Deinterleaver, line),
         Command::Dvb => move_stream(line),
+        Command::Judge => plan_pages::judged::judge(2),
+        Command::Differ => plan_pages::compared::differ(2, 3),
         _ => ask(c, line),
     }
 }

@@ -112,15 +112,16 @@ fn show(left: &[u8], right: &[u8]) {
     }
 }
 
-fn show_beside(left: &[u8], i: usize) {
-    let mut room = [0u8; ROOM];
-    let n = read(i, &mut room);
-    show(left, &room[..n]);
+// Reads the files that arguments i and j name into two rooms, and compares them.
+fn differ_in(left: &mut [u8], right: &mut [u8], i: usize, j: usize) {
+    let n = read(i, left);
+    let m = read(j, right);
+    show(lines::first(left, n), lines::first(right, m));
 }
 
 // Compares the files that arguments i and j name.
 pub fn differ(i: usize, j: usize) {
-    let mut room = [0u8; ROOM];
-    let n = read(i, &mut room);
-    show_beside(&room[..n], j);
+    let mut left = [0u8; ROOM];
+    let mut right = [0u8; ROOM];
+    differ_in(&mut left, &mut right, i, j);
 }

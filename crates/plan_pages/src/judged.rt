@@ -42,9 +42,14 @@ fn show_file(file: &[u8]) {
     }
 }
 
+// Reads the file that argument i names into a room, and judges it.
+fn judge_in(room: &mut [u8], i: usize) {
+    let n = read(i, room);
+    show_file(lines::first(room, n));
+}
+
 // Judges the file that argument i names.
 pub fn judge(i: usize) {
     let mut room = [0u8; ROOM];
-    let n = read(i, &mut room);
-    show_file(&room[..n]);
+    judge_in(&mut room, i);
 }

@@ -6,7 +6,6 @@ pub mod written; // written.rt: the file of given sets
 use files::Got;
 use libc::STDOUT_FILENO;
 use sets::Refusal;
-ghost use Prim.Native.Nat.{_≤_};
 
 // A byte more than a file may have, so that a longer one is seen to be.
 const ROOM: usize = 65537;
@@ -16,26 +15,12 @@ fn refused(x: Refusal) {
     words::text::say_refusal(STDOUT_FILENO, x.number, x.size);
 }
 
-// How many bytes were read. A file that can't be read has none, which is not of the form.
-fn bytes_of(got: Got) -> usize
-    ensures { λ r. ⌜ r ≤ 65537 ⌝ }
-{
-    match got {
-        Got::Of(n) => {
-            if n <= ROOM {
-                return n;
-            }
-            0
-        }
+// Reads the file that argument i names, and answers how many bytes came. Of a file that can't be read none did, and that is not of the form.
+fn read(i: usize, room: &mut [u8]) -> usize {
+    match files::read(i, room) {
+        Got::Of(n) => n,
         Got::Unnamed => 0,
         Got::Unopened => 0,
         Got::Unread => 0,
     }
-}
-
-// Reads the file that argument i names.
-fn read(i: usize, room: &mut [u8; ROOM]) -> usize
-    ensures { λ r. ⌜ r ≤ 65537 ⌝ }
-{
-    bytes_of(files::read(i, room))
 }

@@ -28,14 +28,19 @@ fn number(i: usize) -> Number {
     numbers::read(&one[..k])
 }
 
+// The argument that number k is.
+fn argument(k: usize) -> usize {
+    if k < NUMBERS { FIRST + k } else { 0 }
+}
+
 // Takes `count` arguments as numbers, as far as there is room. Answers whether all are numbers.
-fn take_numbers(numbers: &mut [u32; NUMBERS], count: usize) -> bool {
+fn take_numbers(numbers: &mut [u32], count: usize) -> bool {
     let mut k = 0;
-    while k < NUMBERS {
+    while k < numbers.len() {
         if k >= count {
             return true;
         }
-        match number(FIRST + k) {
+        match number(argument(k)) {
             Number::Value(v) => {
                 numbers[k] = v;
             }
@@ -57,25 +62,33 @@ fn write_bytes(numbers: &[u32], out: &mut [u8]) {
     }
 }
 
+// Writes in the part of a room that has the file's length, for which there is room.
+fn write_part(numbers: &[u32], room: &mut [u8], n: usize) {
+    if n <= room.len() {
+        write_bytes(numbers, &mut room[..n]);
+    }
+}
+
 fn write_file(numbers: &[u32]) {
     match plans::writing::length_of(numbers) {
         Length::Refused(x) => refused(x),
         Length::Bytes(b) => {
             let mut out = [0u8; BYTES];
-            let n = b as usize;
-            if n <= BYTES {
-                write_bytes(numbers, &mut out[..n]);
-            }
+            write_part(numbers, &mut out, b as usize);
         }
     }
 }
 
-fn write_first(numbers: &[u32; NUMBERS], count: usize) {
-    if count < NUMBERS {
-        write_file(&numbers[..count]);
-    } else {
-        write_file(numbers);
+// The first n numbers, or all where there are fewer.
+fn first(s: &[u32], n: usize) -> &[u32] {
+    if n <= s.len() {
+        return &s[..n];
     }
+    s
+}
+
+fn write_some(numbers: &[u32], count: usize) {
+    write_file(first(numbers, count));
 }
 
 // How many arguments stand behind the command.
@@ -96,5 +109,5 @@ pub fn write() {
         told::usage(Command::Plans);
         return;
     }
-    write_first(&numbers, count);
+    write_some(&numbers, count);
 }
