@@ -48,7 +48,7 @@ module _ (f g : List ℕ) where
   IsDifference (At plan position a b) = Apart plan position a b
 
   -- two headers are the same exactly if the sets are
-  same-set : (i : ℕ) → sameHeader (setIn f i) (setIn g i) ≡ true → setIn f i ≡ setIn g i
+  pub same-set : (i : ℕ) → sameHeader (setIn f i) (setIn g i) ≡ true → setIn f i ≡ setIn g i
   unfolding sameHeader setIn
   same-set i e =
       let s = setIn f i in
@@ -59,7 +59,7 @@ module _ (f g : List ℕ) where
       ∙ ap (λ (x : ℕ). setOf (t .profile) x (s .n)) (eqb-true (s .bits) (t .bits) (b .0))
       ∙ ap (setOf (t .profile) (t .bits)) (eqb-true (s .n) (t .n) (b .1))
 
-  same-says : (i : ℕ) → setIn f i ≡ setIn g i → sameHeader (setIn f i) (setIn g i) ≡ true
+  pub same-says : (i : ℕ) → setIn f i ≡ setIn g i → sameHeader (setIn f i) (setIn g i) ≡ true
   unfolding sameHeader
   same-says i e =
       rw (

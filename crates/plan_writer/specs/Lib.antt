@@ -5,3 +5,4 @@ pub mod Storing
 pub mod Listing
 pub mod Whole
 pub mod Back
+pub mod Bad

@@ -53,7 +53,7 @@ fits-least s =
 abbrev pub HandsOn : {A : Type 0} → Set → Outcome Refusal A → Type 0
 HandsOn s o = (x : Refusal) → o ≡ refused x → (x .number ≡ 3 → Fitted s (x .size)) × ((x .number ≡ 3 → ⊥) → x .size ≡ 0)
 
-carries : (s : Set) (x : Refusal) → x ≡ refusal s (x .number) → (x .number ≡ 3 → Fitted s (x .size)) × ((x .number ≡ 3 → ⊥) → x .size ≡ 0)
+pub carries : (s : Set) (x : Refusal) → x ≡ refusal s (x .number) → (x .number ≡ 3 → Fitted s (x .size)) × ((x .number ≡ 3 → ⊥) → x .size ≡ 0)
 carries s x e = (
   λ q. subst (λ (x : Refusal). Fitted s (x .size)) (sym (e ∙ ap (refusal s) q)) (fits-least s .0),
   λ q. subst (λ (y : Refusal). y .size ≡ 0) (sym e) (fits-least s .1 (x .number) q),

@@ -13,3 +13,6 @@ pub mod Zero
 pub mod ZeroSums
 pub mod Stars
 pub mod Fits
+pub mod Plans
+pub mod Differ
+pub mod ZeroPlans
