@@ -200,7 +200,9 @@ fn obey(line: &[u8]) {
         return;
     }
     if let Command::Plans = c {
-        plan_pages::written::write();
+        if !plan_pages::written::write() {
+            told::usage(Command::Plans);
+        }
         return;
     }
     if !commands::in_form(c, line) {

@@ -5,7 +5,6 @@ use numbers::Number;
 use plans::writing::Length;
 use plans::writing::Written;
 use sets::Refusal;
-use told::Command;
 use words::arguments::LONGEST;
 
 // The numbers of one set more than a file may have, so that too many are seen to be.
@@ -97,17 +96,16 @@ fn given() -> usize {
     if n >= FIRST { n - FIRST } else { 0 }
 }
 
-// Writes the file of the sets that the arguments give.
-pub fn write() {
+// Writes the file of the sets that the arguments give. Answers whether they are in form: three numbers a set.
+pub fn write() -> bool {
     let count = given();
     let mut numbers = [0u32; NUMBERS];
     if (count == 0) | (count % 3 != 0) {
-        told::usage(Command::Plans);
-        return;
+        return false;
     }
     if !take_numbers(&mut numbers, count) {
-        told::usage(Command::Plans);
-        return;
+        return false;
     }
     write_some(&numbers, count);
+    true
 }
