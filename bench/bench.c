@@ -10,6 +10,8 @@ walk_call interleaver_walk_l, interleaver_walk_m;
 move_call interleaver_interleave_bytes, interleaver_interleave_soft;
 add_call interleaver_add_received;
 read_call interleaver_read_sum;
+judge_call interleaver_judge_plan;
+write_call interleaver_write_plans;
 feed_call interleaver_dvb_interleave, interleaver_dvb_deinterleave;
 uint32_t interleaver_dvb_start(uint8_t *store, size_t, uint8_t fill, uint32_t *phase);
 
@@ -34,6 +36,8 @@ static feed_call *const feeds[][SIDES] = {
 
 static add_call *const adds[SIDES] = {interleaver_add_received, divide_add, step_add};
 read_call *const reads[SIDES] = {interleaver_read_sum, plain_read, plain_read};
+static judge_call *const judges[SIDES] = {interleaver_judge_plan, divide_judge, step_judge};
+static write_call *const writes[SIDES] = {interleaver_write_plans, divide_write, step_write};
 
 struct area areas[SIDES];
 _Alignas(64) uint8_t input[BYTE];
@@ -52,6 +56,13 @@ void receive(void)
     }
 }
 
+/* The file of one plan: 24 bytes, then the list. */
+static uint32_t write_set(write_call *write, const struct set *set, struct area *a)
+{
+    uint32_t numbers[3] = {set->profile, set->bits, set->n};
+    return write(numbers, 3, a->bytes, 24 + 2 * set->n);
+}
+
 void start(const struct row *r, int side)
 {
     struct area *a = areas + side;
@@ -59,6 +70,10 @@ void start(const struct row *r, int side)
     if (r->kind >= ADD)
         for (uint32_t k = 0; k < sets[r->from].n; k++)
             a->sums[k] = 1, a->counts[k] = 1;
+    if (r->kind == JUDGE) {
+        write_set(divide_write, sets + r->from, a);
+        a->plan = 1, a->length = 24 + 2 * sets[r->from].n;
+    }
     memset(a->store, 7, STORE);
     a->record[0] = 0;
     if (side == STEP)
@@ -106,6 +121,10 @@ uint32_t once(const struct row *r, int side)
     for (const struct set *s = sets + r->from; s < sets + r->from + r->sets && refused == 0; s++) {
         if (r->kind <= LTE)
             refused = walk_set(r, walks[r->kind][side], s, a);
+        else if (r->kind == JUDGE)
+            refused = judges[side](a->bytes, a->length, a->plan, &a->first, &a->wrong);
+        else if (r->kind == WRITE)
+            refused = write_set(writes[side], s, a);
         else if (r->kind == READ)
             refused = read_set(side, s, a);
         else if (r->kind >= ADD)

@@ -4,7 +4,8 @@
 #include "plain.h"
 
 enum { OURS, DIVIDE, STEP, SIDES };
-enum kind { WALK, WRITTEN_OUT, SPATIAL, SPATIAL_M, LTE, BYTES, SOFT, SPATIAL_BYTES, LTE_BYTES, LTE_SOFT, FEED, FEED_BACK, ADD, ADD_SOME, READ };
+enum kind { WALK, WRITTEN_OUT, SPATIAL, SPATIAL_M, LTE, BYTES, SOFT, SPATIAL_BYTES, LTE_BYTES, LTE_SOFT, FEED, FEED_BACK, JUDGE, WRITE, ADD, ADD_SOME,
+            READ };
 extern read_call *const reads[SIDES];
 
 /* A row: some sets in a row from the list of sets, the room of a walk (0: a whole block; NO_ROOM: none), or the length of a feed. */
@@ -28,6 +29,7 @@ struct area {
     float sum;
     uint16_t count;
     uint32_t record[RECORD], cell, cells, turn;
+    uint32_t first, wrong, plan, length; /* a judgement, the plan that is judged, and how long the file in bytes is */
 };
 extern struct area areas[SIDES];
 extern uint8_t input[BYTE];
@@ -38,7 +40,7 @@ extern float received[2][MOST];
 extern uint8_t present[2][MOST];
 void receive(void);
 
-/* Starts a side's stream, or its sums: 1 everywhere, of one value. */
+/* Starts a side's stream, or its sums: 1 everywhere, of one value; or makes the file that it judges, of one plan, with its list as it is to be. */
 void start(const struct row *, int side);
 
 /* A row once, by one side: 0, or the number of a refusal. */

@@ -16,8 +16,9 @@ static long differs(int side)
 static int complain(const struct row *r, int side, long at)
 {
     static const struct { size_t from; const char *name; } parts[] = {
-        {offsetof(struct area, cell), "the cells"}, {offsetof(struct area, sum), "the reading"}, {offsetof(struct area, counts), "the counts"},
-        {offsetof(struct area, sums), "the sums"}, {offsetof(struct area, store), "the store"}, {offsetof(struct area, bytes), "the output"}};
+        {offsetof(struct area, first), "the judgement"}, {offsetof(struct area, cell), "the cells"}, {offsetof(struct area, sum), "the reading"},
+        {offsetof(struct area, counts), "the counts"}, {offsetof(struct area, sums), "the sums"}, {offsetof(struct area, store), "the store"},
+        {offsetof(struct area, bytes), "the output"}};
     size_t i = (size_t)at, part = 0;
     if (i < offsetof(struct area, bytes))
         return printf("bench: %s: %s has address %u at place %zu, ours %u\n", r->name, side_names[side], areas[side].list[i / 2], i / 2,
@@ -86,6 +87,59 @@ static int check_read(const struct row *r)
     return 0;
 }
 
+/* A number of every side's file, and the plan that every side is asked for. */
+static void put_number(uint32_t at, uint32_t x)
+{
+    for (int side = 0; side < SIDES; side++)
+        for (int i = 0; i < 4; i++)
+            areas[side].bytes[at + i] = (uint8_t)(x >> (24 - 8 * i));
+}
+
+static void ask(uint32_t plan, uint32_t length)
+{
+    for (int side = 0; side < SIDES; side++)
+        areas[side].plan = plan, areas[side].length = length;
+}
+
+/* A row once by every side, and whether ours judges so. */
+static int misjudged(const struct row *r, uint32_t first, uint32_t wrong)
+{
+    const struct area *a = areas + OURS;
+    if (unlike(r, 0))
+        return 1;
+    if (a->first == first && a->wrong == wrong)
+        return 0;
+    return printf("bench: %s: ours says %u wrong from %u on, not %u from %u\n", r->name, a->wrong, a->first, wrong, first), 1;
+}
+
+/* The list as it is, one place short, one long, and with two addresses changed; then plans that there aren't, a file cut short, and other sets. */
+static int check_judge(const struct row *r)
+{
+    const struct set *s = sets + r->from;
+    uint32_t n = s->n, length = 24 + 2 * n;
+    int wrong = misjudged(r, 0, 0);
+    ask(1, length - 2), put_number(20, n - 1);
+    wrong = wrong || misjudged(r, n - 1, 1);
+    ask(1, length + 2), put_number(20, n + 1);
+    wrong = wrong || misjudged(r, n, 1);
+    ask(1, length), put_number(20, n);
+    for (int side = 0; side < SIDES; side++)
+        areas[side].bytes[24 + 2 * (n / 2)] ^= 128, areas[side].bytes[24 + 2 * (n - 1) + 1] ^= 1;
+    wrong = wrong || misjudged(r, n / 2, 2);
+    ask(0, length);
+    wrong = wrong || unlike(r, 4);
+    ask(2, length);
+    wrong = wrong || unlike(r, 4);
+    ask(2, length - 1);
+    wrong = wrong || unlike(r, 12);
+    ask(1, length), put_number(12, 7);
+    wrong = wrong || unlike(r, 3);
+    put_number(8, 3);
+    wrong = wrong || unlike(r, 2);
+    put_number(4, 6);
+    return wrong || unlike(r, 1);
+}
+
 /* Each set of a row by itself, and of a stream a few short feeds first, so that a feed begins in the middle. */
 int check(const struct row *whole)
 {
@@ -102,7 +156,10 @@ int check(const struct row *whole)
             r.from += i, r.sets = 1;
         else if (before[i] != 0)
             r.length = before[i];
-        if (unlike(&r, 0))
+        if (r.kind == JUDGE)
+            for (int side = 0; side < SIDES; side++)
+                start(&r, side);
+        if (r.kind == JUDGE ? check_judge(&r) : unlike(&r, 0))
             return 1;
     }
     return whole->kind == READ ? check_read(whole) : whole->kind >= ADD ? check_add(whole) : 0;

@@ -1,6 +1,6 @@
 /* What the two plain C's offer, in the same call shapes as the proved library: `divide_` works each address or byte out by document 01's
-   formula, `step_` keeps counters. Neither tests its input, but where receptions are added up or read. `_written_out` is the same C with d
-   and s as constants of the compiler; `_spatial` serves profiles 6 and 7, `_lte` profile 8, and the others do not. */
+   formula, `step_` keeps counters. Neither tests its input, but where receptions are added up or read, and in plan files. `_written_out` is the
+   same C with d and s as constants of the compiler; `_spatial` serves profiles 6 and 7, `_lte` profile 8, and the others do not. */
 #ifndef PLAIN_H
 #define PLAIN_H
 
@@ -53,6 +53,13 @@ add_call divide_add, step_add;
 typedef uint32_t read_call(const struct set *, const float *sums, size_t, const uint16_t *counts, size_t, uint32_t position, float *sum,
                            uint16_t *count);
 read_call plain_read;
+
+/* A plan of a file beside L: the first wrong position, and how many are wrong; and the file of some sets, three numbers each. With the tests of the
+   library. */
+typedef uint32_t judge_call(const uint8_t *file, size_t, uint32_t plan, uint32_t *first, uint32_t *wrong);
+judge_call divide_judge, step_judge;
+typedef uint32_t write_call(const uint32_t *sets, size_t, uint8_t *out, size_t);
+write_call divide_write, step_write;
 
 /* A DVB feed. What the record holds is each side's own: the phase, or for `step_` the ring to come and a place for each ring. */
 enum { STORE = 1122, RECORD = 12 };

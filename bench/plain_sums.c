@@ -1,24 +1,6 @@
 /* Receptions added up in plain C, with the tests that the library makes: a table by the walk, dividing or stepping, then a pass that judges the
    block and a pass that adds it. */
-#include "plain.h"
-
-/* The number of a set's refusal, of the profiles that are measured. */
-static uint32_t tested(const struct set *set)
-{
-    uint32_t b = set->bits, n = set->n, last = set->stream != 1 ? 16 : 0;
-    if (set->profile == 5)
-        return b != 1 ? 2 : n < 40 || n > 5114 ? 3 : last;
-    if (set->profile != 1 && set->profile != 3)
-        return 1;
-    if (b != 1 && b != 2 && b != 4 && b != 6)
-        return 2;
-    if (set->profile == 3)
-        return n == 48 * b ? last : 3;
-    for (uint32_t w = 1; w <= 16; w *= 2)
-        if (n == 12 * b * w)
-            return last;
-    return 3;
-}
+#include "plain_tested.h"
 
 /* 14, 13 and 15, each over the whole block. A sum of two is finite only where both are. */
 static uint32_t judge(const uint16_t *table, uint32_t n, const float *received, const uint8_t *present, const float *sums, const uint16_t *counts)

@@ -80,6 +80,10 @@ void lay_out(void)
     add_row(LTE, QUADRATIC_6144, 1, NO_ROOM, "walk", ", no room");
     add_row(LTE_BYTES, QUADRATIC_6144, 1, 0, "interleave bytes", "");
     add_row(LTE_SOFT, QUADRATIC_6144, 1, 0, "interleave f32", "");
+    add_row(JUDGE, WLAN_6_288, 1, 0, "judge a plan", "");
+    add_row(JUDGE, TURBO_5114, 1, 0, "judge a plan", "");
+    add_row(WRITE, WLAN_6_288, 1, 0, "write a plan", "");
+    add_row(WRITE, TURBO_5114, 1, 0, "write a plan", "");
     shown = row_count;
     for (int i = 0; i < 4; i++)
         add_row(i < 2 ? SPATIAL : SPATIAL_M, HT, 32, i % 2 * 7, i < 2 ? "walk, profiles 6 and 7" : "walk for M, profiles 6 and 7",
@@ -97,4 +101,6 @@ void lay_out(void)
         add_set(5, 1, full[i], 1);
     add_row(WALK, QUADRATIC + 6, 3, 0, "walk, full rectangles", "");
     add_row(WALK, QUADRATIC + 6, 3, 7, "walk, full rectangles", ", slices of 7");
+    add_row(JUDGE, 0, HT, 0, "judge a plan, profiles 1, 3 and 5", "");
+    add_row(WRITE, 0, HT, 0, "write a plan, profiles 1, 3 and 5", "");
 }

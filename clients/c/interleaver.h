@@ -1,4 +1,4 @@
-/* Interleavers for C: address lists, whole blocks of bytes and of floats, repeated receptions added up, the DVB byte stream.
+/* Interleavers for C: address lists, whole blocks of bytes and of floats, repeated receptions added up, the DVB byte stream, plan files.
 
        interleaver_set set = interleaver_set_of(INTERLEAVER_WLAN, 4, 192);
        uint8_t in[192], out[192];
@@ -63,19 +63,23 @@ static inline interleaver_set interleaver_set_lte(uint32_t k, uint32_t f1, uint3
 #define INTERLEAVER_DVB_STORE 1122u     /* bytes of a DVB machine's store */
 #define INTERLEAVER_DVB_PHASES 5654880u /* a phase is below this */
 #define INTERLEAVER_DVB_DELAY 2244u     /* an interleaver and a deinterleaver together are this many bytes late */
+#define INTERLEAVER_PLANS 16u           /* a plan file has 1 to so many plans */
+#define INTERLEAVER_PLAN_BYTES 65536u   /* and at most so many bytes */
 
 /* What a call but interleaver_fitting gives back: INTERLEAVER_DONE, or why it was refused. No call gives 8. */
 #define INTERLEAVER_DONE 0u
-#define INTERLEAVER_PROFILE 1u   /* the profile isn't 1 to 8, or it is 5 or 8 and the call is the walk for M */
+#define INTERLEAVER_PROFILE 1u   /* the profile isn't 1 to 8, or it is 5 or 8 and the call is the walk for M, or it is above 5 and a plan file's */
 #define INTERLEAVER_BITS 2u      /* the bits aren't listed for the profile */
 #define INTERLEAVER_SIZE 3u      /* n isn't listed for that profile and those bits, or k not for profile 8; interleaver_fitting says which is */
-#define INTERLEAVER_POSITION 4u  /* a position is n or more */
+#define INTERLEAVER_POSITION 4u  /* a position is n or more, or a plan is 0 or more than the file has */
 #define INTERLEAVER_INPUT 5u     /* a block's input isn't n long, or its presence bytes aren't */
-#define INTERLEAVER_OUTPUT 6u    /* a block's output isn't n long, or sums or counts aren't, or a feed's output isn't as long as its input */
+#define INTERLEAVER_OUTPUT 6u    /* a block's output isn't n long, or sums or counts aren't, or a feed's output isn't as long as its input, or the buffer
+                                    of a plan file isn't as long as the file */
 #define INTERLEAVER_STORE 7u     /* a store isn't 1,122 bytes */
 #define INTERLEAVER_RECORD 9u    /* a cell is past the cell total, or a phase is 5,654,880 or more */
 #define INTERLEAVER_SHARED 10u   /* profile 8: two positions would share an address */
 #define INTERLEAVER_FACTORS 11u  /* profile 8: f1 or f2 is 0, or not below n */
+#define INTERLEAVER_FORM 12u     /* a plan file isn't of the form, or its sets are not 1 to 16, or it would pass 65,536 bytes */
 #define INTERLEAVER_FINITE 13u   /* a present value, a stored sum whose count isn't 0, or the sum of these two isn't finite */
 #define INTERLEAVER_PRESENCE 14u /* a presence byte is above 1 */
 #define INTERLEAVER_COUNT 15u    /* a count would pass 65,535 */
@@ -141,6 +145,24 @@ uint32_t interleaver_dvb_interleave(uint32_t *phase, uint8_t *store, size_t stor
                                     size_t out_len);
 uint32_t interleaver_dvb_deinterleave(uint32_t *phase, uint8_t *store, size_t store_len, const uint8_t *input, size_t input_len, uint8_t *out,
                                       size_t out_len);
+
+/* Plan files: lists of addresses, each with its parameter set, that are to be L. A file is the number of plans, 1 to 16; for each plan its profile, its
+   bits, its n, the offset of its list from the file's start, and how many addresses the list has; then the lists. The numbers have 4 bytes, the
+   addresses 2, all big end first. The lists follow the header and each other without gaps, to the file's end, and a file has at most 65,536 bytes:
+   anything else is 12. A plan's profile is 1 to 5, its stream is 1.
+
+   How many plans a file has. Refusal 12. */
+uint32_t interleaver_plans(const uint8_t *file, size_t file_len, uint32_t *count);
+
+/* One plan, counted from 1, beside L of its set: *wrong is how many positions are wrong, *first the first of them, counted from 0. A missing place, and a
+   surplus one, is wrong. Both are 0 where the list is L. Refusals 12, 4, 1 (profiles 6 to 8 too), 2, 3. */
+uint32_t interleaver_judge_plan(const uint8_t *file, size_t file_len, uint32_t plan, uint32_t *first, uint32_t *wrong);
+
+/* The file of the lists L of some sets. sets is three numbers a set, profile, bits and n, and sets_len is how many numbers they are. The first call gives
+   the file's length; the second writes the file, into a buffer of that length. Refusals 12 where the sets are not 1 to 16, or sets_len isn't three times
+   as many; that of the first set that is refused, 1 (profiles 6 to 8 too), 2 or 3; 12 for a file above 65,536 bytes; and of the second call then 6. */
+uint32_t interleaver_plans_length(const uint32_t *sets, size_t sets_len, uint32_t *bytes);
+uint32_t interleaver_write_plans(const uint32_t *sets, size_t sets_len, uint8_t *out, size_t out_len);
 
 #ifdef __cplusplus
 }

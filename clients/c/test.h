@@ -73,6 +73,23 @@ uint32_t read_at(interleaver_set set, uint32_t position, uint32_t *sum, uint16_t
 void sums_refused(interleaver_set set, const uint16_t *l);
 void sums_of_refused_sets(void);
 
+/* Plan files. A set is three numbers: profile, bits, N. */
+enum { PLANS = INTERLEAVER_PLANS, ROOM = INTERLEAVER_PLAN_BYTES, ENTRY = 20, WCDMA_MAX = 5114 };
+extern const uint32_t planned[PLANS][3]; /* accepted sets of profiles 1 to 5 */
+
+void put_number(uint8_t *at, uint32_t x);
+void put_address(uint8_t *at, uint32_t x);
+uint32_t number_at(const uint8_t *at);
+uint32_t address_at(const uint8_t *at);
+
+/* L of an accepted set of profiles 1 to 5, by document 01's formulas and, of profile 5, by 3GPP TS 25.212 as it is printed */
+void list_of(const uint32_t *set, uint16_t *list);
+
+/* a file, byte by byte, and its length: of each plan so many addresses of L, and zeros behind L's end; N of each where counts is null */
+size_t make_file(uint8_t *file, const uint32_t (*sets)[3], unsigned plans, const uint32_t *counts);
+
+int judged(const uint8_t *file, size_t length, uint32_t plan, uint32_t first, uint32_t wrong); /* whether a plan is judged so */
+
 void fitting(void);
 void walks(void);
 void spatial(void);
@@ -84,4 +101,7 @@ void floats(void);
 void symbols(void);
 void sums(void);
 void streams(void);
+void plans(void);
+void plans_refused(void);
+void plans_unwritten(void);
 #endif

@@ -28,6 +28,7 @@
 //! are those of live slices that do not overlap, which is what a `&` and a `&mut` are.
 
 pub mod lte;
+pub mod plans;
 mod raw;
 mod refusal;
 mod sums;

@@ -35,6 +35,10 @@ extern "C" {
         sum: &mut f32,
         count: &mut u16,
     ) -> u32;
+    pub fn interleaver_plans(file: *const u8, file_len: usize, count: &mut u32) -> u32;
+    pub fn interleaver_judge_plan(file: *const u8, file_len: usize, plan: u32, first: &mut u32, wrong: &mut u32) -> u32;
+    pub fn interleaver_plans_length(sets: *const u32, sets_len: usize, bytes: &mut u32) -> u32;
+    pub fn interleaver_write_plans(sets: *const u32, sets_len: usize, out: *mut u8, out_len: usize) -> u32;
     pub fn interleaver_dvb_start(store: *mut u8, store_len: usize, fill: u8, phase: &mut u32) -> u32;
 }
 

@@ -1,9 +1,11 @@
 // Every function of the wrapper over the archive: refusals, slices left alone, the bits of floats and sums, walks and streams cut into parts.
-// spatial.rs has the streams of profiles 6 and 7, factors.rs the factors of profile 8, fitting.rs the size that refusal 3 carries.
+// spatial.rs has the streams of profiles 6 and 7, factors.rs the factors of profile 8, fitting.rs the size that refusal 3 carries,
+// plans.rs plan files.
 use super::*;
 
 mod factors;
 mod fitting;
+mod plans;
 mod spatial;
 
 fn sets() -> impl Iterator<Item = Set> {
@@ -25,12 +27,12 @@ fn a_refusal_is_its_number() {
     assert_eq!(answer(0), Ok(()));
     for number in (1..1000).chain([u32::MAX]) {
         let refusal = answer(number).unwrap_err();
-        assert_eq!((refusal.number(), refusal == Refusal::Other(number)), (number, !matches!(number, 1..=7 | 9..=11 | 13..=16)));
+        assert_eq!((refusal.number(), refusal == Refusal::Other(number)), (number, !matches!(number, 1..=7 | 9..=16)));
         assert!(refusal.to_string().starts_with(&format!("refused with {number}: ")));
     }
     assert_eq!([1, 5, 6, 9].map(|number| answer(number).unwrap_err()), [Refusal::Profile, Refusal::Input, Refusal::Output, Refusal::Record]);
-    let late = [Refusal::Shared, Refusal::Factors, Refusal::Finite, Refusal::Presence, Refusal::Count, Refusal::Stream];
-    assert_eq!([10, 11, 13, 14, 15, 16].map(|number| answer(number).unwrap_err()), late);
+    let late = [Refusal::Shared, Refusal::Factors, Refusal::Form, Refusal::Finite, Refusal::Presence, Refusal::Count, Refusal::Stream];
+    assert_eq!([10, 11, 12, 13, 14, 15, 16].map(|number| answer(number).unwrap_err()), late);
     assert_eq!(answer(8).unwrap_err().to_string(), "refused with 8: for a reason that has no name here");
 }
 

@@ -56,6 +56,18 @@ fn put_plan(room: &mut [u8; text::ROOM], from: usize, plan: u32, what: &[u8]) ->
     put(room, at, what)
 }
 
+fn put_position(room: &mut [u8; text::ROOM], from: usize, plan: u32, position: u32) -> usize {
+    let mut at = put_plan(room, from, plan, b" at ");
+    at = put_number(room, at, position as u64);
+    put(room, at, b":")
+}
+
+fn put_places(room: &mut [u8; text::ROOM], from: usize, left: Place, right: Place) -> usize {
+    let mut at = put_place(room, from, left);
+    at = put_place(room, at, right);
+    put(room, at, b"\n")
+}
+
 // The line of a difference.
 fn put_difference(room: &mut [u8; text::ROOM], from: usize, d: Difference) -> usize {
     match d {
@@ -67,12 +79,8 @@ fn put_difference(room: &mut [u8; text::ROOM], from: usize, d: Difference) -> us
             left,
             right,
         } => {
-            let mut at = put_plan(room, from, plan, b" at ");
-            at = put_number(room, at, position as u64);
-            at = put(room, at, b":");
-            at = put_place(room, at, left);
-            at = put_place(room, at, right);
-            put(room, at, b"\n")
+            let at = put_position(room, from, plan, position);
+            put_places(room, at, left, right)
         }
     }
 }
