@@ -46,9 +46,9 @@ pub fn measure(numbers: &[u32], count: usize) -> Measured
     ensures { λ r. ⌜ sayMeasured r ≡ measuredOf (run (setAt (now (numbers .entry))) 0 count) (entryPlace count) ⌝ }
 {
     let mut bytes = 4 + 20 * count;
-    let mut i = 0;
-    while i < count {
-        let set = set_of(numbers, i);
+    let mut tested = 0;
+    while tested < count {
+        let set = set_of(numbers, tested);
         match ruling_of(set) {
             Ruled::Stopped(k) => {
                 return Measured::Refused(sets::refusal_of(set, k));
@@ -56,7 +56,7 @@ pub fn measure(numbers: &[u32], count: usize) -> Measured
             Ruled::Clear => {
                 let n = set.n as usize;
                 bytes += 2 * n;
-                i += 1;
+                tested += 1;
             }
         }
     }

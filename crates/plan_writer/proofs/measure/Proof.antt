@@ -9,10 +9,10 @@ use Rattle.plan_writer.proofs.measure.Statement.{statement}
 use Rattle.plan_writer.proofs.measure.Tie as tie
 
 abbrev Inv-loop : tie.InvT-loop
-Inv-loop numbers count bytes₀ i₀ bytes i = Measuring (setAt numbers) count bytes i
+Inv-loop numbers count bytes₀ tested₀ bytes tested = Measuring (setAt numbers) count bytes tested
 
 abbrev μ-loop : tie.MeasureT-loop
-μ-loop numbers count bytes₀ i₀ bytes i = count - i
+μ-loop numbers count bytes₀ tested₀ bytes tested = count - tested
 
 mul-bytes : tie.Need-mul-bytes Inv-loop μ-loop
 mul-bytes c = search needs
@@ -50,8 +50,8 @@ mul-bytes-2 c = search needs
 add-bytes-2 : tie.Need-add-bytes-2 Inv-loop μ-loop
 add-bytes-2 c = search needs
 
-add-i : tie.Need-add-i Inv-loop μ-loop
-add-i c = search needs
+add-tested : tie.Need-add-tested Inv-loop μ-loop
+add-tested c = search needs
 
 loop-less : tie.Need-loop-less Inv-loop μ-loop
 loop-less c = search needs
@@ -80,7 +80,7 @@ measure-spec =
     cast-n
     mul-bytes-2
     add-bytes-2
-    add-i
+    add-tested
     loop-less
     loop-again
     returns-2)
