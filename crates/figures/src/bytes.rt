@@ -15,31 +15,31 @@ fn fail(what: &[u8], path: &[u8]) {
     fail_first(&room, at);
 }
 
-// The same at the path that argument i is.
-fn fail_at(what: &[u8], i: usize) {
-    let mut path = [0u8; files::PATH];
-    let k = os::arg(i, &mut path);
-    fail(what, &path[..k]);
+// Reads the file at a path, as far as there is room.
+fn read_path(path: &[u8], room: &mut [u8]) -> Got {
+    match files::read_path(path, room) {
+        files::Got::Of(k) => Got::Of(k),
+        files::Got::Unread => {
+            fail(b"interleaver: reading ", path);
+            Got::Failed
+        }
+        _ => {
+            fail(b"interleaver: opening ", path);
+            Got::Failed
+        }
+    }
 }
 
 // Reads the file that argument i names, as far as there is room.
 pub(super) fn read(i: usize, room: &mut [u8]) -> Got {
-    match files::read(i, room) {
-        files::Got::Of(k) => Got::Of(k),
-        files::Got::Unnamed => {
-            io::write_all(
-                STDERR_FILENO,
-                b"interleaver: expected FILE, a path of 1 to 1,024 bytes\n",
-            );
-            Got::Failed
-        }
-        files::Got::Unopened => {
-            fail_at(b"interleaver: opening ", i);
-            Got::Failed
-        }
-        files::Got::Unread => {
-            fail_at(b"interleaver: reading ", i);
-            Got::Failed
-        }
+    let mut path = [0u8; files::PATH];
+    let k = os::arg(i, &mut path);
+    if k == 0 {
+        io::write_all(
+            STDERR_FILENO,
+            b"interleaver: expected FILE, a path of 1 to 1,024 bytes\n",
+        );
+        return Got::Failed;
     }
+    read_path(&path[..k], room)
 }

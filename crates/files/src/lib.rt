@@ -33,8 +33,8 @@ fn read_full(fd: i32, room: &mut [u8]) -> Got
     Got::Of(at)
 }
 
-// Reads the file at a path, as far as there is room.
-fn read_path(path: &[u8], room: &mut [u8]) -> Got
+// Reads the file at a path, as far as there is room. (What failed is in errno then.)
+pub fn read_path(path: &[u8], room: &mut [u8]) -> Got
     ensures { λ r. ⌜ Within r (length (now (room .entry))) ⌝ }
 {
     let fd = os::open_read(path);
