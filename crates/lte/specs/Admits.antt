@@ -1,5 +1,5 @@
 -- Which sets of profile 8 are accepted, in the words of request 6: K is one of the 188, bits and stream are 1, f1 and f2 are from 1 to K - 1, and no two
--- positions share an address. The test of a set accepts exactly these. Rests on Factors, and on Admits of sets.
+-- positions share an address. The test of a set accepts exactly these. Rests on Factors, and on Admits of sizes and of sets.
 use mathlib.Core.Bool.{true}
 use mathlib.Core.List.{[], _∷_, List·Memᴰ, List·Memᴰ·head, List·Memᴰ·eq-of-singleton}
 use mathlib.Core.Logic.{_↔_, ⊎-elim}
@@ -15,13 +15,14 @@ use Rattle.profiles.specs.Profiles.{lte, lteSizes, profiles, manyStreams, entry
 use Rattle.profiles.specs.Entered.{in-profiles}
 use Rattle.sizes.specs.Size.{size, sizesOf, in-rows}
 use Rattle.sizes.specs.Tests.{listedSizes, bitsListed, sizeListed}
+use Rattle.sizes.specs.Admits.{listed-passing}
 use Rattle.sets.specs.declared.Set.{Set}
 use Rattle.sets.specs.Set.{sizeOf, f1, f2}
 use Rattle.sets.specs.Stream.{streamListed, stream-1, stream-true}
 use Rattle.sets.specs.Numbered.{eight-quadratic}
 use Rattle.sets.specs.Beside.{besideSentences, not-outside, factors-range}
 use Rattle.sets.specs.Verdict.{verdictOf}
-use Rattle.sets.specs.Admits.{listed-passing, accepted-factors, passed-accepted}
+use Rattle.sets.specs.Admits.{accepted-factors, passed-accepted}
 use Rattle.quadratic.specs.Formula.{quadraticL}
 use Rattle.lte.specs.Factors.{passes-listed}
 

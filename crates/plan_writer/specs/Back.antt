@@ -15,8 +15,9 @@ use Rattle.big_end.specs.Numbers.{numberAt, pairAt, numberBytes, pairBytes}
 use Rattle.big_end.specs.Back.{number-back, pair-back, number-part, pair-part}
 use Rattle.sets.specs.declared.Set.{Set}
 use Rattle.sizes.specs.Listed.{bits-small}
+use Rattle.sizes.specs.Admits.{listed-passing}
 use Rattle.sets.specs.Set.{sizeOf}
-use Rattle.sets.specs.Admits.{accepted-listed, listed-passing}
+use Rattle.sets.specs.Admits.{accepted-listed}
 use Rattle.families.specs.Rules.{L, lawful}
 use Rattle.pieces.specs.Pieces.{listOf}
 use Rattle.plan_form.specs.Form.{entryPlace, setOf, plansIn, setIn, offsetIn, countIn, addressesAt, listIn, listsMeet, formed}

@@ -6,6 +6,7 @@ use native.Mathlib.Omega.{arith}
 use Rattle.laws.specs.Outcome.{done}
 use Rattle.profiles.specs.declared.Family.{Family}
 use Rattle.profiles.specs.declared.Family.the-variants.{Carrier, Spatial, Turbo, Quadratic}
+use Rattle.sizes.specs.Admits.{listed-range}
 use Rattle.quadratic.specs.Formula.{allApart}
 use Rattle.sets.specs.declared.Set.{Set}
 use Rattle.sets.specs.Set.{sizeOf, familyOf, f1, f2}
@@ -13,7 +14,7 @@ use Rattle.sets.specs.Stream.{stream-true}
 use Rattle.sets.specs.Fit.{Carried, carrier-fit, spatial-fit, turbo-fit, quadratic-fit}
 use Rattle.sets.specs.Beside.{factors-range, factors-apart}
 use Rattle.sets.specs.Verdict.{verdictOf}
-use Rattle.sets.specs.Admits.{accepted-listed, listed-range, accepted-stream, accepted-factors}
+use Rattle.sets.specs.Admits.{accepted-listed, accepted-stream, accepted-factors}
 
 -- a block of the quadratic interleaver: small enough, two numbers in their range, and no address shared
 pub record Squared (s : Set) : Type 0 where

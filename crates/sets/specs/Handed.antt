@@ -1,5 +1,5 @@
 -- What a refusal of a set carries, change request 8, and that whatever judges a set by lines hands it on: its refusal is that of its number, and with 3 it is
--- the one that the test of the set gives. Where N is listed the size is N itself, and 3 is not said. Rests on NextSize.
+-- the one that the test of the set gives. Where N is listed the size is N itself, and 3 is not said. Rests on NextSize of fitting.
 use Prim.Native.Nat.{ℕ}
 use mathlib.Core.Bool.{false}
 use mathlib.Core.List.{List, _++_}
@@ -9,15 +9,15 @@ use borrow.Author.Tests.{ne-eqb}
 use Rattle.laws.specs.Outcome.{refused, Line, Ruling, stopped, settle, done, clear-first, clear-then, judged, refused-first, stopped-first}
 use Rattle.laws.specs.Unsaid.{numbers, among, unsaid, not-in-front, not-behind}
 use Rattle.laws.specs.Least.{LeastFrom}
+use Rattle.fitting.specs.Fitting.{fitting}
+use Rattle.fitting.specs.NextSize.{ListedFor, fitting-least}
 use Rattle.sets.specs.declared.Set.{Set}
 use Rattle.sets.specs.declared.Refusal.{Refusal}
 use Rattle.sets.specs.Set.{sizeOf}
 use Rattle.sets.specs.Stream.{streamLines}
 use Rattle.sets.specs.Beside.{besideLines}
-use Rattle.sets.specs.Fitting.{fitting}
 use Rattle.sets.specs.Verdict.{sizeLines, setLines, refusal, refusal-number, verdictOf, stopped-refuses}
 use Rattle.sets.specs.Admits.{listed-clear}
-use Rattle.sets.specs.NextSize.{ListedFor, fitting-least}
 
 -- with 3: the least listed size from N on, or 0
 size-of-3 : (s : Set) → refusal s 3 .size ≡ fitting (sizeOf s)

@@ -2,12 +2,9 @@ pub mod Set
 pub mod Stream
 pub mod Numbered
 pub mod Fit
-pub mod Fitting
-pub mod Tiers
 pub mod Beside
 pub mod Verdict
 pub mod Admits
-pub mod NextSize
 pub mod Handed
 pub mod Listed
 pub mod Carried

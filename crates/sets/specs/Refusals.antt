@@ -16,10 +16,11 @@ use Rattle.sizes.specs.Size.{size}
 use Rattle.sets.specs.Set.{sizeOf}
 use Rattle.profiles.specs.Profiles.{lastProfile}
 use Rattle.sizes.specs.Tests.{listedSizes, profileListed, bitsListed}
+use Rattle.sizes.specs.Admits.{profile-range, some-listed, listed-passing, passing-listed, listed-range}
 use Rattle.sets.specs.Stream.{streamSentences, stream-told}
 use Rattle.sets.specs.Beside.{besideSentences, beside-told}
 use Rattle.sets.specs.Verdict.{sizeLines, setLines, refusal, verdictOf, refusal-number}
-use Rattle.sets.specs.Admits.{profile-range, some-listed, listed-passing, passing-listed, clear-listed, listed-range}
+use Rattle.sets.specs.Admits.{clear-listed}
 
 -- the profile is 1 to 8
 abbrev pub ProfileListed : Size → Type 0

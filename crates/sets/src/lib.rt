@@ -9,8 +9,6 @@ use profiles::Family;
 use profiles::Numbers;
 use sizes::Size;
 
-mod fitting; // fitting.rt: the size that would have fitted
-
 // The numbers that a set has beside its size and stream. Profile 8 reads the first two, which are its f1 and f2; no other profile reads any.
 pub struct Factors {
     pub first: u32,

@@ -13,10 +13,10 @@ use Rattle.laws.specs.Least.{least-none}
 use Rattle.sizes.specs.Size.{size}
 use Rattle.sizes.specs.Tests.{listedSizes, profileListed, bitsListed, sizeListed}
 use Rattle.profiles.specs.Profiles.{turboSizes, lteSizes, entryBy}
+use Rattle.fitting.specs.Fitting.{listedFor, fitting}
 use Rattle.sets.specs.declared.Set.{Set}
 use Rattle.sets.specs.declared.Refusal.{Refusal}
 use Rattle.sets.specs.Set.{familyOf}
-use Rattle.sets.specs.Fitting.{listedFor, fitting}
 use Rattle.sets.specs.Verdict.{setLines, rulingOf, refusal, verdictOf, fittingOf, stopped-refuses}
 use Rattle.sets.specs.Handed.{least-with-3, none-without-3, its-number, as-tested, three-unsaid}
 use Rattle.sets.specs.Handed as law

@@ -10,7 +10,7 @@ use Rattle.sets.specs.Set.{sizeOf}
 use Rattle.sets.specs.Stream.{streamListed}
 use Rattle.sets.specs.Beside.{factorsIn, testable}
 use Rattle.sets.specs.Verdict.{setLines}
-use Rattle.sets.specs.Admits.{passing-listed}
+use Rattle.sizes.specs.Admits.{passing-listed}
 use Rattle.sets.proofs.ruling_of.Statement.{statement}
 use Rattle.sets.proofs.ruling_of.Tie as tie
 

@@ -1,11 +1,11 @@
--- `sets::fitting::next_multiple` rounds up, as far as the limit.
+-- `fitting::next_multiple` rounds up, as far as the limit.
 use Prim.Native.Nat.{_+_, _-_}
 use native.Mathlib.Nat.{div-mul-le-self}
 use native.Mathlib.Omega.{arith}
 use borrow.Author.Needs.{needs}
 use Rattle.laws.specs.Next.{next-multiple, none-multiple, past-multiple}
-use Rattle.sets.proofs.fitting.next_multiple.Statement.{statement}
-use Rattle.sets.proofs.fitting.next_multiple.Tie as tie
+use Rattle.fitting.proofs.next_multiple.Statement.{statement}
+use Rattle.fitting.proofs.next_multiple.Tie as tie
 
 returns : tie.Need-returns
 returns c = past-multiple _ _ _ (omega (arith, c .if1 .taken))

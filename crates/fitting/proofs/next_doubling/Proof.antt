@@ -1,4 +1,4 @@
--- `sets::fitting::next_doubling` goes through the five numbers from the least on.
+-- `fitting::next_doubling` goes through the five numbers from the least on.
 use Prim.Native.Nat.{ℕ, _*_, _<_}
 use mathlib.Core.Bool.{false}
 use mathlib.Core.Path.{_≡_}
@@ -9,8 +9,8 @@ use borrow.Author.Tests.{le-leb, lt-leb}
 use Rattle.profiles.specs.Profiles.{doubles}
 use Rattle.laws.specs.Members.{oneOf}
 use Rattle.laws.specs.Next.{Next, firstFrom, Rising, next-rising}
-use Rattle.sets.proofs.fitting.next_doubling.Statement.{statement}
-use Rattle.sets.proofs.fitting.next_doubling.Tie as tie
+use Rattle.fitting.proofs.next_doubling.Statement.{statement}
+use Rattle.fitting.proofs.next_doubling.Tie as tie
 
 -- the five rise
 rising : (u : ℕ) → 0 < u → Rising 0 (doubles u)

@@ -1,13 +1,13 @@
--- `sets::fitting::fitting_of` asks for the form where the profile and the bits are listed; where they aren't, no size is.
+-- `fitting::fitting_of` asks for the form where the profile and the bits are listed; where they aren't, no size is.
 use mathlib.Core.Bool.{true≢false}
 use mathlib.Core.Path.{sym, _∙_}
 use borrow.Author.Needs.{needs}
 use Rattle.laws.specs.Members.{fails, passes}
 use Rattle.sizes.specs.Tests.{profileListed, bitsListed}
-use Rattle.sets.specs.Admits.{listed-passing}
-use Rattle.sets.specs.NextSize.{fitting-none}
-use Rattle.sets.proofs.fitting.fitting_of.Statement.{statement}
-use Rattle.sets.proofs.fitting.fitting_of.Tie as tie
+use Rattle.sizes.specs.Admits.{listed-passing}
+use Rattle.fitting.specs.NextSize.{fitting-none}
+use Rattle.fitting.proofs.fitting_of.Statement.{statement}
+use Rattle.fitting.proofs.fitting_of.Tie as tie
 
 profile-listed-requires : tie.Need-profile-listed-requires
 profile-listed-requires c κs = search needs

@@ -1,5 +1,5 @@
 -- What the size that would have fitted is, by the listed sizes; and what the code goes by: for listed bits of a listed profile it is the least N from the
--- one asked for on that passes the test of sizes, and for any others 0. Rests on Fitting, Fit and Admits.
+-- one asked for on that passes the test of sizes, and for any others 0. Rests on Fitting, and on Fit and Admits of sizes.
 use Prim.Native.Nat.{ℕ}
 use mathlib.Core.Bool.{true}
 use mathlib.Core.List.{List·Memᴰ, Memᴰ·map, Memᴰ·of-map, Memᴰ·cast}
@@ -17,9 +17,9 @@ use Rattle.sizes.specs.Listed.{size-by}
 use Rattle.profiles.specs.declared.Form.{Form}
 use Rattle.profiles.specs.declared.Admitted.{Admitted}
 use Rattle.profiles.specs.Profiles.{admittedBy, sizeIn}
-use Rattle.sets.specs.Fit.{listed-pos}
-use Rattle.sets.specs.Fitting.{alike, listedFor, fitting}
-use Rattle.sets.specs.Admits.{listed-passing, passing-listed}
+use Rattle.sizes.specs.Fit.{listed-pos}
+use Rattle.fitting.specs.Fitting.{alike, listedFor, fitting}
+use Rattle.sizes.specs.Admits.{listed-passing, passing-listed}
 
 -- N is listed for the profile and the bits of z
 abbrev pub ListedFor : Size → ℕ → Type 0

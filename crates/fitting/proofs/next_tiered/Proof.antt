@@ -1,9 +1,9 @@
--- `sets::fitting::next_tiered` rounds the first number asked for up by its own step.
+-- `fitting::next_tiered` rounds the first number asked for up by its own step.
 use native.Mathlib.Omega.{arith}
 use borrow.Author.Needs.{needs}
-use Rattle.sets.specs.Tiers.{step-small, next-tiered}
-use Rattle.sets.proofs.fitting.next_tiered.Statement.{statement}
-use Rattle.sets.proofs.fitting.next_tiered.Tie as tie
+use Rattle.fitting.specs.Tiers.{step-small, next-tiered}
+use Rattle.fitting.proofs.next_tiered.Statement.{statement}
+use Rattle.fitting.proofs.next_tiered.Tie as tie
 
 at-least-requires : tie.Need-at-least-requires
 at-least-requires c κs = search needs

@@ -15,7 +15,7 @@ ghost use Rattle.profiles.specs.declared.Form.the-variants.{Tiered};
 ghost use Rattle.profiles.specs.Profiles.{doubles, sizeIn};
 ghost use Rattle.sizes.specs.Size.{size};
 ghost use Rattle.sizes.specs.Tests.{profileListed, bitsListed};
-ghost use Rattle.sets.specs.Fitting.{fitting};
+ghost use Rattle.fitting.specs.Fitting.{fitting};
 
 // The greater of two numbers.
 fn at_least(n: u32, u: u32) -> u32
@@ -118,7 +118,7 @@ fn next_listed(size: Size) -> u32
 }
 
 // Of any numbers. Where the profile or the bits aren't listed, no N is. (Three numbers, and no `Size`, which every caller would copy.)
-pub(super) fn fitting_of(profile: u32, bits: u32, n: u32) -> u32
+pub fn fitting_of(profile: u32, bits: u32, n: u32) -> u32
     ensures { λ r. ⌜ r ≡ fitting (size profile bits n) ⌝ }
 {
     let size = Size { profile, bits, n };

@@ -1,4 +1,4 @@
--- `sets::fitting::next_listed` is the next size of the profile's form, which is the one that fits.
+-- `fitting::next_listed` is the next size of the profile's form, which is the one that fits.
 use Prim.Native.Nat.{ℕ, _*_, _<_}
 use mathlib.Core.Path.{_≡_}
 use native.Mathlib.Omega.{arith}
@@ -6,11 +6,11 @@ use borrow.Author.Needs.{needs}
 use Rattle.profiles.specs.declared.Form.{Form}
 use Rattle.profiles.specs.Profiles.{sizeIn}
 use Rattle.sizes.specs.Listed.{bits-small, unit-small, limit-small, unit-times}
-use Rattle.sets.specs.Fitting.{fitting}
+use Rattle.fitting.specs.Fitting.{fitting}
 use Rattle.laws.specs.Next.{Next}
-use Rattle.sets.specs.NextSize.{fitting-by}
-use Rattle.sets.proofs.fitting.next_listed.Statement.{statement}
-use Rattle.sets.proofs.fitting.next_listed.Tie as tie
+use Rattle.fitting.specs.NextSize.{fitting-by}
+use Rattle.fitting.proofs.next_listed.Statement.{statement}
+use Rattle.fitting.proofs.next_listed.Tie as tie
 
 -- the unit times the bits, and times s
 by-bits : (a : tie.After-admitted-by)

@@ -1,8 +1,8 @@
--- `sets::fitting::next_single` is the number itself, where it is not below N.
+-- `fitting::next_single` is the number itself, where it is not below N.
 use native.Mathlib.Omega.{arith}
 use Rattle.laws.specs.Next.{next-single, none-single}
-use Rattle.sets.proofs.fitting.next_single.Statement.{statement}
-use Rattle.sets.proofs.fitting.next_single.Tie as tie
+use Rattle.fitting.proofs.next_single.Statement.{statement}
+use Rattle.fitting.proofs.next_single.Tie as tie
 
 returns : tie.Need-returns
 returns c = none-single _ _ (omega (arith, c .if1 .taken))

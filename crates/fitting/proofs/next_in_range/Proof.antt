@@ -1,9 +1,9 @@
--- `sets::fitting::next_in_range` is the first number asked for, or nothing past the end.
+-- `fitting::next_in_range` is the first number asked for, or nothing past the end.
 use native.Mathlib.Omega.{arith}
 use borrow.Author.Needs.{needs}
 use Rattle.laws.specs.Next.{next-range, none-range}
-use Rattle.sets.proofs.fitting.next_in_range.Statement.{statement}
-use Rattle.sets.proofs.fitting.next_in_range.Tie as tie
+use Rattle.fitting.proofs.next_in_range.Statement.{statement}
+use Rattle.fitting.proofs.next_in_range.Tie as tie
 
 at-least-requires : tie.Need-at-least-requires
 at-least-requires c κs = search needs
