@@ -1,5 +1,4 @@
 // The bytes of a file that an argument names. What fails is answered, and said by whoever asked.
-ghost use Prim.Native.Nat.{_≤_};
 ghost use lib.ListN.{length};
 ghost use Rattle.files.specs.Got.{Within};
 

@@ -13,9 +13,8 @@ use Rattle.laws.specs.Run.{run, length-run}
 use Rattle.laws.specs.Keep.{keep, steps}
 use Rattle.laws.specs.Cut.{keep-cut, wrote-keep}
 use Rattle.laws.specs.Once.{inside}
-use Rattle.laws.specs.Outcome.{refused, done, judged}
 use Rattle.laws.specs.Pieces.{cells-within}
-use Rattle.laws.specs.Walk.{Rule, Lawful, Counts, counts, walkCounts, walkList, walkCells, walkSlice, leafLines, passedBy, walk-from}
+use Rattle.laws.specs.Walk.{Rule, Lawful, Counts, counts, walkCounts, walkList, walkCells, walkSlice, passedBy, walk-from}
 use Rattle.sets.specs.declared.Set.{Set}
 use Rattle.sets.specs.Admits.{Accepted}
 use Rattle.families.specs.Rules.{ruleOf, L, lawful}

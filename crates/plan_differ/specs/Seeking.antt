@@ -1,12 +1,12 @@
 -- Looking for the next difference: along two lists, in a plan, and from plan to plan. What is left from here has the same first as the whole.
 use Prim.Native.Nat.{ℕ, suc, max, _+_, _*_, _-_, _≤_, _<_}
-use mathlib.Core.Bool.{Bool, true, false, not, _&&_}
+use mathlib.Core.Bool.{Bool, true, false, not}
 use mathlib.Core.List.{List, [], _∷_, _++_, map}
 use mathlib.Core.Path.{_≡_, refl, sym, ap, ap₂, _∙_}
 use native.Mathlib.Numerals.{add-one}
 use native.Mathlib.Omega.{arith}
-use lib.Dec.{eqb, ltb}
-use lib.ListN.{length, getD}
+use lib.Dec.{eqb}
+use lib.ListN.{length}
 use borrow.Author.Tests.{lt-ltb, le-ltb}
 use Rattle.laws.specs.Keep.{keep}
 use Rattle.laws.specs.Members.{fails, passes}
@@ -17,7 +17,6 @@ use Rattle.plan_form.specs.Form.{plansIn, setIn, listIn}
 use Rattle.plan_form.specs.Lists.{agree, wrongsFrom, placeOf, listAt, Inside, Listed, listed-length, listed-address, listed-list}
 use Rattle.plan_differ.specs.declared.Difference.{Difference}
 use Rattle.plan_differ.specs.declared.Difference.the-variants.{Missing, Header, At}
-use Rattle.plan_differ.specs.declared.Next.{Next}
 use Rattle.plan_differ.specs.declared.Next.the-variants.{One, Nothing}
 use Rattle.plan_differ.specs.declared.Sought.{Sought}
 use Rattle.plan_differ.specs.declared.Sought.the-variants as sought

@@ -1,7 +1,7 @@
 -- The form of a plan file in the request's sentences: at most 65,536 bytes; 1 to 16 plans, whose entries lie inside the file; the first list where the header
 -- ends, each other where the one before it ends, and the last to the file's end. A file passes the test of the form exactly if it is so.
 use Prim.Native.Nat.{ℕ, zero, suc, _+_, _*_, _-_, _≤_, _<_}
-use mathlib.Core.Bool.{Bool, true, _&&_}
+use mathlib.Core.Bool.{true}
 use mathlib.Core.List.{List}
 use mathlib.Core.Logic.{_↔_, ⊎-elim}
 use mathlib.Core.Path.{_≡_, refl, sym, ap, _∙_, subst}
@@ -12,7 +12,7 @@ use lib.Dec.{eqb}
 use lib.ListN.{length}
 use Rattle.laws.specs.Members.{both}
 use Rattle.plan_form.specs.Form.{plansIn, entryPlace, offsetIn, countIn, listsMeet, formed}
-use Rattle.plan_form.specs.Meets.{Formed, formed-is, by-lists}
+use Rattle.plan_form.specs.Meets.{formed-is, by-lists}
 
 pub record PlanFile (f : List ℕ) : Type 0 where
   pub short : length f ≤ 65536

@@ -1,13 +1,12 @@
 -- The sets that a plan file may have: 1 for a profile that isn't 1 to 5, then what the set gets by itself.
 use Prim.Native.Nat.{_≤_, _<_}
-use mathlib.Core.Bool.{_&&_, not}
 use mathlib.Core.List.{List, _∷_}
 use mathlib.Core.Path.{_≡_, sym}
 use lib.Dec.{ltb}
 use borrow.Author.Tests.{lt-ltb, le-ltb, ltb-false}
-use Rattle.laws.specs.Outcome.{Line, line, clear, stopped, first, first-clear, clear-first, clear-done}
+use Rattle.laws.specs.Outcome.{Line, line, clear, stopped, first, first-clear, clear-first}
 use Rattle.sets.specs.declared.Set.{Set}
-use Rattle.sets.specs.Verdict.{setLines, rulingOf, refusal, clear-accepts}
+use Rattle.sets.specs.Verdict.{setLines, rulingOf, clear-accepts}
 use Rattle.sets.specs.Admits.{Accepted}
 
 -- 1: plan files know profiles up to 5 only. Then 1, 2 and 3 as every set has them (16, 11 and 10 don't apply: the stream is 1, and no such profile reads

@@ -3,7 +3,6 @@
 use sets::NO_FACTORS;
 use sets::Ruled;
 use sets::Set;
-ghost use mathlib.Core.Bool.{true};
 ghost use mathlib.Core.Path.{_≡_};
 ghost use Prim.Native.Nat.{_+_, _<_, _≤_};
 ghost use lib.ListN.{length};

@@ -7,7 +7,7 @@ use mathlib.Core.Path.{_≡_, refl, sym, ap, ap₂, _∙_}
 use native.Mathlib.Nat.{add-zero, zero-add, sub-zero}
 use native.Mathlib.Omega.{arith}
 use lib.Dec.{eqb, ltb}
-use lib.ListN.{length, getD, take, length-append}
+use lib.ListN.{length, getD, length-append}
 use lib.Seq.{getD-take}
 use borrow.Author.Tests.{eq-eqb, ne-eqb, lt-ltb, le-ltb}
 use Rattle.laws.specs.Run.{run, length-run, getD-run}
@@ -21,7 +21,7 @@ use Rattle.families.specs.Rules.{L}
 use Rattle.pieces.specs.declared.Standing.{Standing}
 use Rattle.pieces.specs.Pieces.{listOf, Stands, Pieced}
 use Rattle.plan_form.specs.declared.Listing.{Listing}
-use Rattle.plan_form.specs.Lists.{agree, wrong, wrongsFrom, wrongs, listAt, listed-length, listed-address}
+use Rattle.plan_form.specs.Lists.{wrong, wrongsFrom, wrongs, listAt, listed-length, listed-address}
 use Rattle.plan_judge.specs.declared.Tally.{Tally}
 
 abbrev pub tally : ℕ → ℕ → Tally

@@ -1,11 +1,11 @@
 -- The loop that tests sets: those before the next are good, and what is left of the test from here is the whole of it.
 use Prim.Native.Nat.{ℕ, suc, _+_, _*_, _-_, _≤_, _<_}
-use mathlib.Core.List.{List, [], _∷_, _++_}
+use mathlib.Core.List.{List, [], _∷_}
 use mathlib.Core.Path.{_≡_, sym, ap, _∙_}
 use native.Mathlib.Nat.{sub-zero}
 use native.Mathlib.Numerals.{add-one}
 use native.Mathlib.Omega.{arith}
-use Rattle.laws.specs.Outcome.{done, refused, Ruling, clear, stopped, first, judged, clear-then, stopped-front}
+use Rattle.laws.specs.Outcome.{done, refused, clear, stopped, first, judged, clear-then, stopped-front}
 use Rattle.laws.specs.Run.{run}
 use Rattle.sets.specs.declared.Set.{Set}
 use Rattle.sets.specs.declared.Refusal.{Refusal}

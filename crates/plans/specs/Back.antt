@@ -2,7 +2,7 @@
 -- files.
 use Prim.Native.Nat.{ℕ, zero, suc, _+_, _-_, _/_, _≤_, _<_}
 use mathlib.Core.Bool.{true, not}
-use mathlib.Core.List.{List, [], _∷_}
+use mathlib.Core.List.{List}
 use mathlib.Core.Path.{_≡_, refl, sym, ap, _∙_}
 use native.Mathlib.Omega.{arith}
 use lib.ListN.{length, getD}
@@ -14,12 +14,12 @@ use Rattle.laws.specs.Run.{run, length-run}
 use Rattle.sets.specs.declared.Set.{Set}
 use Rattle.plan_form.specs.Form.{setOf, plansIn, setIn, formed}
 use Rattle.plan_form.specs.Planned.{plannedLines}
-use Rattle.plan_writer.specs.File.{setAt, setsIn, fileOf, fileLength}
+use Rattle.plan_writer.specs.File.{setAt, setsIn, fileOf}
 use Rattle.plan_writer.specs.Lengths.{file-length}
 use Rattle.plan_writer.specs.Back.{GoodSets, plans-read, written-formed, plan-read, good-at}
 use Rattle.plans.specs.Judging.{same, judgeLines, judgedOf, countedOf, counted-plans}
 use Rattle.plans.specs.Laws.{judged-equal}
-use Rattle.plans.specs.Writing.{lengthOf, Good, length-says}
+use Rattle.plans.specs.Writing.{lengthOf, length-says}
 
 -- the sets of a slice of numbers have stream 1 and no factors
 of-three : (l : List ℕ) (i k : ℕ) → All (λ s. setOf (s .profile) (s .bits) (s .n) ≡ s) (run (setAt l) i k)

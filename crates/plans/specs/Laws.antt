@@ -2,7 +2,7 @@
 use Prim.Native.Nat.{ℕ, suc, _-_}
 use mathlib.Core.List.{List, [], _∷_}
 use mathlib.Core.Logic.{_↔_}
-use mathlib.Core.Path.{_≡_, refl, sym, ap, _∙_}
+use mathlib.Core.Path.{_≡_, refl, ap, _∙_}
 use native.Mathlib.Omega.{arith}
 use lib.ListN.{length}
 use Rattle.laws.specs.Outcome.{done, Clear, done-clear, clear-done}
@@ -11,7 +11,7 @@ use Rattle.pieces.specs.Pieces.{listOf}
 use Rattle.plan_form.specs.Form.{setIn, listIn}
 use Rattle.plan_form.specs.Lists.{wrongs}
 use Rattle.plan_form.specs.Right.{none-wrong, Wrongly, first-wrong}
-use Rattle.plans.specs.Judging.{Compared, same, wrong, comparedBy, compared, judgeLines, judgedOf}
+use Rattle.plans.specs.Judging.{same, wrong, comparedBy, compared, judgeLines, judgedOf}
 
 module _ (xs ys : List ℕ) where
   same-exactly : (compared xs ys ≡ same) ↔ (xs ≡ ys)

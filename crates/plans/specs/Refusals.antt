@@ -1,7 +1,7 @@
 -- The refusals of the calls on plan files in the sentences of change request 9, in its order: 12, 4, 1, then the set's own, for a plan that is judged; 12, the
 -- first bad set's own, 12, 6 for a file that is written; 12 for a count, and for either file of two. A number is said exactly when its sentence is the first
 -- that holds.
-use Prim.Native.Nat.{ℕ, _-_, _/_, _%_, _≤_, _<_}
+use Prim.Native.Nat.{ℕ, _-_, _/_, _%_, _<_}
 use mathlib.Core.Bool.{true, false}
 use mathlib.Core.List.{List, [], _∷_, _++_}
 use mathlib.Core.Logic.{_↔_, _≢_}

@@ -1,21 +1,19 @@
 -- Change request 9: which file is a plan file, which refusal a call on one gives, what judging a plan says, and what is written.
-use Prim.Native.Nat.{ℕ, suc, max, _+_, _-_, _/_, _≤_, _<_}
+use Prim.Native.Nat.{ℕ, max, _-_, _/_, _≤_, _<_}
 use mathlib.Core.Bool.{true}
 use mathlib.Core.List.{List, [], _∷_, List·Memᴰ}
 use mathlib.Core.Logic.{_↔_}
-use mathlib.Core.Path.{_≡_, refl, sym, ap, ap₂, _∙_, subst}
+use mathlib.Core.Path.{_≡_, refl, sym, ap, _∙_, subst}
 use native.Mathlib.Omega.{arith}
 use lib.Dec.{eqb}
 use lib.ListN.{length}
 use borrow.Author.Tests.{ltb-false, eqb-false, eqb-true, not-false, ne-eqb, le-ltb}
-use Rattle.laws.specs.Outcome.{done, refused, Clear, clear, stopped, first, first-clear, clear-first, clear-done, clear-front, clear-back, answer-clear}
+use Rattle.laws.specs.Outcome.{done, refused, Clear, stopped, first, first-clear, clear-first, clear-done, clear-front, clear-back, answer-clear}
 use Rattle.laws.specs.Sentences.{FirstTrue}
 use Rattle.sets.specs.declared.Set.{Set}
-use Rattle.sets.specs.declared.Refusal.{Refusal}
 use Rattle.sets.specs.Verdict.{setLines, refusal, verdictOf}
 use Rattle.sets.specs.Admits.{Accepted}
 use Rattle.sets.specs.Handed.{its-number}
-use Rattle.families.specs.Rules.{L}
 use Rattle.pieces.specs.Pieces.{listOf}
 use Rattle.plan_form.specs.Form.{plansIn, setIn, setOf, listIn, formed}
 use Rattle.plan_form.specs.Gapless.{PlanFile, formed-exactly}
@@ -24,7 +22,7 @@ use Rattle.plan_form.specs.Right.{Right, Wrongly, wrong-positions}
 use Rattle.plan_form.specs.Planned.{plannedLines, planned-profile, planned-accepted}
 use Rattle.plan_writer.specs.File.{setsIn, fileOf, fileLength, allLines, badOf}
 use Rattle.plan_writer.specs.Bad.{FirstBad, first-bad}
-use Rattle.plans.specs.Judging.{Compared, same, wrong, comparedBy, compared, judgeLines, judgedOf, countedOf}
+use Rattle.plans.specs.Judging.{Compared, same, wrong, compared, judgeLines, judgedOf, countedOf}
 use Rattle.plans.specs.Writing.{lengthLines, writeLines, roomLines, lengthOf, writtenOf, bufferOf, length-says, write-done, write-new}
 use Rattle.plans.specs.Differing.{differedOf}
 use Rattle.plans.specs.Laws as law

@@ -1,6 +1,6 @@
 -- `plan_differ::differ_from` asks plan after plan. The loop's invariant: the first difference from here on is the first of all; the measure is the plans that are left.
 use native.Mathlib.Omega.{arith}
-use mathlib.Core.Path.{_≡_, refl, sym, ap, ap₂, _∙_}
+use mathlib.Core.Path.{_≡_, refl, sym, ap₂, _∙_}
 use Prim.Native.Nat.{max, _-_}
 use Rattle.plan_differ.specs.Differences.{nextOf, differFrom}
 use Rattle.plan_differ.specs.Seeking.{differ-end, differ-found, differ-next}

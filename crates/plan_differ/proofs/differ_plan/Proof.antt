@@ -2,7 +2,7 @@
 use mathlib.Core.Path.{_∙_}
 use Rattle.plan_form.specs.Lists.{having}
 use Rattle.plan_differ.specs.Seeking.{plan-left, plan-right, plan-header, plan-lists}
-use mathlib.Core.Path.{subst, _∙_}
+use mathlib.Core.Path.{_∙_}
 use borrow.Author.Needs.{needs}
 use Rattle.plan_differ.proofs.differ_plan.Statement.{statement}
 use Rattle.plan_differ.proofs.differ_plan.Tie as tie

@@ -1,6 +1,6 @@
 -- `plan_writer::put_list` goes from piece to piece. The loop's invariant: what was walked is stored; the measure is what is left of L.
 use native.Mathlib.Omega.{arith}
-use mathlib.Core.Path.{_≡_, refl, _∙_}
+use mathlib.Core.Path.{_≡_, refl}
 use Prim.Native.Nat.{_-_}
 use lib.ListN.{length}
 use Rattle.plan_writer.specs.Listing.{Filing, file-first, file-end, file-more}

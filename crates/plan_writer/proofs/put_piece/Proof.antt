@@ -1,8 +1,8 @@
 -- `plan_writer::put_piece` stores a piece. The loop's invariant: what is still to be stored, stored from here, makes the whole; the measure is what is left.
 use Prim.Native.Nat.{_-_}
 use native.Mathlib.Omega.{arith}
-use mathlib.Core.Path.{sym, ap, _∙_}
-use lib.ListN.{length, take}
+use mathlib.Core.Path.{sym}
+use lib.ListN.{take}
 use lib.Seq.{length-take-le, getD-take}
 use Rattle.plan_writer.specs.Listing.{Putting, put-first, put-end, put-more}
 use borrow.Author.Needs.{needs}
