@@ -2,3 +2,4 @@ pub mod Differences
 pub mod Seeking
 pub mod Listed
 pub mod Members
+pub mod Rising

@@ -7,6 +7,7 @@ use mathlib.Core.Logic.{_↔_}
 use mathlib.Core.Path.{_≡_, refl, sym, ap, ap₂, _∙_, subst}
 use native.Mathlib.Omega.{arith}
 use lib.Dec.{eqb, ltb}
+use lib.ListN.{length}
 use borrow.Author.Tests.{lt-ltb, ltb-true, ltb-false, eq-eqb, eqb-true}
 use Rattle.laws.specs.Members.{both, in-chained, of-chained}
 use Rattle.laws.specs.Run.{run, mem-run, run-mem}
@@ -15,7 +16,6 @@ use Rattle.plan_form.specs.declared.Place.{Place}
 use Rattle.plan_form.specs.Form.{plansIn, setIn, setOf, listIn}
 use Rattle.plan_form.specs.Lists.{wrongs, placeOf}
 use Rattle.plan_form.specs.Right.{Right, wrong-positions}
-use lib.ListN.{length}
 use Rattle.plan_differ.specs.declared.Difference.{Difference}
 use Rattle.plan_differ.specs.declared.Difference.the-variants.{Missing, Header, At}
 use Rattle.plan_differ.specs.Differences.{sameHeader, differenceAt, listsDiffer, planDiffers, differences}

@@ -63,7 +63,7 @@ module _ (f : List ℕ) (list : Listing) where
   place-address p h q =
       ap Address (q ∙ sym (listed-address p h)) ∙ sym (rw (lt-ltb p (length (listAt f list)) (omega (arith, listed-length))))
 
--- a file of the form
+-- a file of the form, with what its readers ask of its numbers
 pub record Proper (f : List ℕ) : Type 0 where
   pub is-formed : formed f ≡ true
   pub long : 4 ≤ length f
@@ -72,7 +72,7 @@ pub record Proper (f : List ℕ) : Type 0 where
 pub proper : {f : List ℕ} → formed f ≡ true → Proper f
 proper {f} e = let z = formed-is f e in record { is-formed = e; long = omega (arith, z .header); few = z .few }
 
--- one that has plan i: the plan's entry lies inside it
+-- one that has plan i, whose entry lies inside it
 pub record Having (f : List ℕ) (i : ℕ) : Type 0 where
   pub is-formed : formed f ≡ true
   pub has : i < plansIn f

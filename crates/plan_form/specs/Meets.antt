@@ -16,6 +16,7 @@ use Rattle.plan_form.specs.Form.{plansIn, entryPlace, offsetIn, countIn,
 -- the loop over a header: the lists of the plans before i meet, and the next is to begin at `at`
 pub record Meeting (f : List ℕ) (plans at i : ℕ) : Type 0 where
   pub here : i ≤ plans
+  -- (324 is the longest header, 8,589,934,590 twice the largest number of 32 bits)
   pub small : at ≤ 324 + 8589934590 * i
   pub same : listsMeet f (plans - i) i at ≡ listsMeet f plans 0 (entryPlace plans)
 

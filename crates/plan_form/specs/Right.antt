@@ -64,13 +64,17 @@ module _ (xs ys : List ℕ) where
         (λ p l h. ap not (right-agree ys ys p (record { in-left = omega arith; in-right = omega arith; same = refl })))),
   )
 
+  -- how many positions below the larger length are right: those at which the test for a wrong one fails
+  abbrev pub rightOnes : ℕ
+  rightOnes = padding (λ p. p) (wrong xs ys) 0 (max (length xs) (length ys))
+
   -- else the first of them is wrong, none before it is, and with the right ones they are all
   pub record Wrongly (first count : ℕ) : Type 0 where
     pub differs : Right xs ys first → ⊥
     pub right-before : (q : ℕ) → q < first → Right xs ys q
     pub within : first < max (length xs) (length ys)
     pub counts : count ≡ length (wrongs xs ys)
-    pub all-are : count + padding (λ p. p) (wrong xs ys) 0 (max (length xs) (length ys)) ≡ max (length xs) (length ys)
+    pub all-are : count + rightOnes ≡ max (length xs) (length ys)
 
   pub first-wrong : (p : ℕ) (ps : List ℕ) → wrongs xs ys ≡ p ∷ ps → Wrongly p (suc (length ps))
   unfolding wrongsFrom

@@ -36,6 +36,7 @@ one-left f count i h {s} q = rw (let e : count - i ≡ suc (count - (i + 1)) = o
 
 pub record Measuring (f : ℕ → Set) (count bytes i : ℕ) : Type 0 where
   pub here : i ≤ count
+  -- (324 is the longest header, 8,589,934,590 twice the largest number of 32 bits)
   pub small : bytes ≤ 324 + 8589934590 * i
   pub same : measuredOf (run f i (count - i)) bytes ≡ measuredOf (run f 0 count) (entryPlace count)
 

@@ -4,13 +4,14 @@ use Prim.Native.Nat.{ℕ, zero, suc, _+_, _-_, _/_, _≤_, _<_}
 use mathlib.Core.Bool.{true, not}
 use mathlib.Core.List.{List}
 use mathlib.Core.Path.{_≡_, refl, sym, ap, _∙_}
+use native.Mathlib.Nat.{zero-add}
 use native.Mathlib.Omega.{arith}
 use lib.ListN.{length, getD}
 use lib.Seq.{ext-getD}
 use borrow.Author.Tests.{ne-eqb, le-ltb}
 use Rattle.laws.specs.Members.{All}
 use Rattle.laws.specs.Outcome.{done, first-clear}
-use Rattle.laws.specs.Run.{run, length-run}
+use Rattle.laws.specs.Run.{run, length-run, getD-run}
 use Rattle.sets.specs.declared.Set.{Set}
 use Rattle.plan_form.specs.Form.{setOf, plansIn, setIn, formed}
 use Rattle.plan_form.specs.Planned.{plannedLines}
@@ -68,6 +69,12 @@ module _ (l : List ℕ) {b : ℕ} (q : lengthOf l ≡ done b) where
 
   pub written-long : length (fileOf (setsIn l)) ≡ b
   written-long = file-length (setsIn l) ∙ sym (length-says l (sym q) .long)
+
+  -- plan by plan the sets that were given
+  pub written-sets : (plan : ℕ) → 1 ≤ plan → plan ≤ length l / 3 → setIn (fileOf (setsIn l)) (plan - 1) ≡ setAt l (plan - 1)
+  written-sets plan h k =
+      plan-read (setsIn l) good-sets (plan - 1) (omega (arith, many)) .set-is
+      ∙ getD-run (setAt l) 0 (length l / 3) (plan - 1) (setOf 0 0 0) (omega arith) ∙ ap (setAt l) (zero-add (plan - 1))
 
   pub written-counted : countedOf (fileOf (setsIn l)) ≡ done (length l / 3)
   written-counted = sym (counted-plans (fileOf (setsIn l)) written-formed-so (sym many ∙ plans-read (setsIn l) good-sets))

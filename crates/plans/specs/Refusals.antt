@@ -5,13 +5,14 @@ use Prim.Native.Nat.{ℕ, _-_, _/_, _%_, _<_}
 use mathlib.Core.Bool.{true, false}
 use mathlib.Core.List.{List, [], _∷_, _++_}
 use mathlib.Core.Logic.{_↔_, _≢_}
-use mathlib.Core.Path.{_≡_}
+use mathlib.Core.Path.{_≡_, sym, ap, _∙_}
 use lib.Dec.{eqb}
 use lib.ListN.{length}
 use borrow.Author.Tests.{eqb-true, eqb-false}
-use Rattle.laws.specs.Outcome.{refused, Line, line}
+use Rattle.laws.specs.Outcome.{refused, Line, line, stopped, first, judged, refused-first, stopped-first}
 use Rattle.laws.specs.Sentences.{Sentence, sentence, FirstTrue, Told, none, more, told-differ, told-past, said-exactly, kept-alone}
 use Rattle.laws.specs.Told.{told-unless, told-join}
+use Rattle.laws.specs.Unsaid.{among, not-in-front, not-behind}
 use Rattle.sets.specs.declared.Set.{Set}
 use Rattle.sets.specs.Verdict.{refusal}
 use Rattle.sets.specs.Refusals.{setSentences, set-told, refusals-apart}
@@ -20,9 +21,10 @@ use Rattle.plan_form.specs.Form.{plansIn, setIn, setOf, listIn, formed, fileLin
 use Rattle.plan_form.specs.Gapless.{PlanFile, formed-exactly}
 use Rattle.plan_form.specs.Planned.{plannedLines}
 use Rattle.plan_writer.specs.File.{setsIn, fileOf, fileLength, allLines, badOf}
+use Rattle.plan_writer.specs.Bad.{FirstBad, first-bad}
 use Rattle.plan_differ.specs.Differences.{differFrom, nextOf}
 use Rattle.plans.specs.Judging.{compared, judgeLines, judgedOf, countedOf}
-use Rattle.plans.specs.Writing.{lengthLines, writeLines, lengthOf, writtenOf, bufferOf}
+use Rattle.plans.specs.Writing.{countLines, sizeLines, roomLines, lengthLines, writeLines, lengthOf, writtenOf, bufferOf}
 use Rattle.plans.specs.Differing.{filesLines, differedOf}
 
 -- 12: the file is no plan file
@@ -116,3 +118,29 @@ refusal-order-differ f g plan position k =
 pub buffer-kept : (l old : List ℕ) (k : ℕ) → FirstTrue (writeSentences l (length old)) k → bufferOf l old ≡ old
 unfolding bufferOf
 buffer-kept l old k h = kept-alone (write-told l (length old)) tt (fileOf (setsIn l)) old k h
+
+-- the line that a refusal is of
+its-line : {R A : Type 0} (give : ℕ → R) → ((j k : ℕ) → give j ≡ give k → j ≡ k) → (ls : List Line) (a : A) (k : ℕ)
+    → judged give ls a ≡ refused (give k) → first ls ≡ stopped k
+its-line give apart ls a k e =
+    let g = refused-first give a ls (give k) e in
+    stopped-first ls (g .number) (g .its-line) ∙ ap stopped (sym (apart k (g .number) (g .refusal-is)))
+
+-- a refusal of the writer that is neither 12 nor 6 is of the first set that is refused, and has its number
+module _ (l : List ℕ) (k : ℕ) (not-12 : eqb 12 k ≡ false) where
+  from-sets : first (lengthLines l) ≡ stopped k → FirstBad (setsIn l) (badOf (setsIn l)) k
+  unfolding lengthLines among
+  from-sets e =
+      first-bad (setsIn l) k
+      (not-behind k (allLines (setsIn l)) (sizeLines l) (rw not-12)
+      (not-in-front k (countLines l) (allLines (setsIn l) ++ sizeLines l) (rw not-12) e))
+
+  pub length-of-bad : lengthOf l ≡ refused (refusal (badOf (setsIn l)) k) → FirstBad (setsIn l) (badOf (setsIn l)) k
+  unfolding lengthOf
+  length-of-bad e = from-sets (its-line (refusal (badOf (setsIn l))) (refusals-apart (badOf (setsIn l))) (lengthLines l) (fileLength (setsIn l)) k e)
+
+  pub write-of-bad : (room : ℕ) → eqb 6 k ≡ false → writtenOf l room ≡ refused (refusal (badOf (setsIn l)) k) → FirstBad (setsIn l) (badOf (setsIn l)) k
+  unfolding writtenOf writeLines among
+  write-of-bad room n e =
+      from-sets (not-behind k (lengthLines l) (roomLines l room) (rw n)
+      (its-line (refusal (badOf (setsIn l))) (refusals-apart (badOf (setsIn l))) (writeLines l room) tt k e))

@@ -21,10 +21,11 @@ use Rattle.plan_differ.specs.declared.Difference.{Difference}
 use Rattle.plan_differ.specs.declared.Difference.the-variants.{Missing, Header, At}
 use Rattle.plan_differ.specs.Differences.{sameHeader, listsDiffer, planDiffers, someDiffer, differFrom, differences}
 use Rattle.plan_differ.specs.Listed.{file-order}
+use Rattle.plan_differ.specs.Rising.{Rising, differences-rise}
 use Rattle.plan_differ.specs.Members.{Both, IsDifference, same-set, same-says, differences-are}
 use Rattle.plans.specs.Asked.{Asked, asked-all, asked-are}
 
--- whoever asks from plan 1, position 0, and each time from the place after the last difference, is told the differences of two plan files, each once
+-- whoever asks from plan 1, position 0, and each time from the place after the last difference, is told the differences of two plan files
 pub differ-listed : (f g : List ℕ) → PlanFile f → PlanFile g
     → Asked f g 1 0 (differences f g) × ((ds : List Difference) → Asked f g 1 0 ds → ds ≡ differences f g)
 differ-listed f g a b = (asked-all f g (formed-exactly f .1 a) (formed-exactly g .1 b), λ ds h. asked-are f g h)
@@ -33,9 +34,13 @@ differ-listed f g a b = (asked-all f g (formed-exactly f .1 a) (formed-exactly g
 pub differ-all : (f g : List ℕ) (d : Difference) → List·Memᴰ d (differences f g) ↔ IsDifference f g d
 differ-all f g d = differences-are f g d
 
--- in file order: those of the first plan, of the second, and so on
+-- in file order: those of the first plan, of the second, and so on ..
 pub differ-order : (f g : List ℕ) → differences f g ≡ chained (λ i. planDiffers f g i 0) (run (λ i. i) 0 (max (plansIn f) (plansIn g)))
 differ-order f g = file-order f g
+
+-- each stands before those behind it, by its plan, and in a plan by its position: so each is listed once
+pub differ-rises : (f g : List ℕ) → Rising (differences f g)
+differ-rises f g = differences-rise f g
 
 -- the plans of two files agree
 pub record Agree (f g : List ℕ) : Type 0 where

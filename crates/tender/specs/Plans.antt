@@ -2,13 +2,13 @@
 use Prim.Native.Nat.{ℕ, max, _-_, _/_, _≤_, _<_}
 use mathlib.Core.Bool.{true}
 use mathlib.Core.List.{List, [], _∷_, List·Memᴰ}
-use mathlib.Core.Logic.{_↔_}
+use mathlib.Core.Logic.{_↔_, _≢_}
 use mathlib.Core.Path.{_≡_, refl, sym, ap, _∙_, subst}
 use native.Mathlib.Omega.{arith}
 use lib.Dec.{eqb}
 use lib.ListN.{length}
 use borrow.Author.Tests.{ltb-false, eqb-false, eqb-true, not-false, ne-eqb, le-ltb}
-use Rattle.laws.specs.Outcome.{done, refused, Clear, stopped, first, first-clear, clear-first, clear-done, clear-front, clear-back, answer-clear}
+use Rattle.laws.specs.Outcome.{done, refused, Clear, first-clear, clear-first, clear-done, clear-front, clear-back, answer-clear}
 use Rattle.laws.specs.Sentences.{FirstTrue}
 use Rattle.sets.specs.declared.Set.{Set}
 use Rattle.sets.specs.Verdict.{setLines, refusal, verdictOf}
@@ -20,8 +20,8 @@ use Rattle.plan_form.specs.Gapless.{PlanFile, formed-exactly}
 use Rattle.plan_form.specs.Lists.{wrongs}
 use Rattle.plan_form.specs.Right.{Right, Wrongly, wrong-positions}
 use Rattle.plan_form.specs.Planned.{plannedLines, planned-profile, planned-accepted}
-use Rattle.plan_writer.specs.File.{setsIn, fileOf, fileLength, allLines, badOf}
-use Rattle.plan_writer.specs.Bad.{FirstBad, first-bad}
+use Rattle.plan_writer.specs.File.{setAt, setsIn, fileOf, fileLength, badOf}
+use Rattle.plan_writer.specs.Bad.{FirstBad}
 use Rattle.plans.specs.Judging.{Compared, same, wrong, compared, judgeLines, judgedOf, countedOf}
 use Rattle.plans.specs.Writing.{lengthLines, writeLines, roomLines, lengthOf, writtenOf, bufferOf, length-says, write-done, write-new}
 use Rattle.plans.specs.Differing.{differedOf}
@@ -59,9 +59,14 @@ pub plan-differ-refused : (f g : List ℕ) (plan position k : ℕ)
     → (differedOf f g plan position ≡ refused (refusal (setOf 0 0 0) k)) ↔ FirstTrue (filesSentences f g) k
 plan-differ-refused f g plan position k = order.refusal-order-differ f g plan position k
 
--- the set that a refusal of the writer is of: the first that is refused, and those before it are good
-pub plan-first-bad : (ss : List Set) (k : ℕ) → first (allLines ss) ≡ stopped k → FirstBad ss (badOf ss) k
-plan-first-bad ss k e = first-bad ss k e
+-- a refusal of the writer that is neither 12 nor 6 is of the first set that is refused: those before it are good, and the number is its own
+pub plan-first-bad : (l : List ℕ) (k : ℕ) → k ≢ 12 → k ≢ 6
+    → (lengthOf l ≡ refused (refusal (badOf (setsIn l)) k) → FirstBad (setsIn l) (badOf (setsIn l)) k)
+    × ((room : ℕ) → writtenOf l room ≡ refused (refusal (badOf (setsIn l)) k) → FirstBad (setsIn l) (badOf (setsIn l)) k)
+plan-first-bad l k n m = (
+  λ e. order.length-of-bad l k (ne-eqb 12 k (λ q. n (sym q))) e,
+  λ room e. order.write-of-bad l k (ne-eqb 12 k (λ q. n (sym q))) room (ne-eqb 6 k (λ q. m (sym q))) e,
+)
 
 -- a refusal carries the size that would have fitted, of the plan's set, and of the first bad set
 pub plan-fits : ((f : List ℕ) (plan : ℕ) → HandsOn (setIn f (plan - 1)) (judgedOf f plan))
@@ -144,11 +149,12 @@ module _ (f : List ℕ) (plan : ℕ) where
 pub wrong-exactly : (xs ys : List ℕ) (p : ℕ) → List·Memᴰ p (wrongs xs ys) ↔ ((p < max (length xs) (length ys)) × (Right xs ys p → ⊥))
 wrong-exactly xs ys p = wrong-positions xs ys p
 
--- what was written: a plan file with as many plans as there were sets, each judged equal
+-- what was written: a plan file with as many plans as there were sets, plan by plan the set that was given, each judged equal: its list is L of that set
 pub record Written (l f : List ℕ) : Type 0 where
   pub is-file : PlanFile f
   pub is-long : length f ≡ fileLength (setsIn l)
   pub has-plans : countedOf f ≡ done (length l / 3)
+  pub its-sets : (plan : ℕ) → 1 ≤ plan → plan ≤ length l / 3 → setIn f (plan - 1) ≡ setAt l (plan - 1)
   pub all-equal : (plan : ℕ) → 1 ≤ plan → plan ≤ length l / 3 → judgedOf f plan ≡ done same
 
 -- writing is done exactly where a length is told, and the buffer has it
@@ -181,6 +187,7 @@ module _ (l : List ℕ) where
         is-file = formed-exactly (fileOf (setsIn l)) .0 (back.written-formed-so l q);
         is-long = back.written-long l q ∙ length-says l (sym q) .long;
         has-plans = back.written-counted l q;
+        its-sets = back.written-sets l q;
         all-equal = back.written-equal l q;
       })
 
