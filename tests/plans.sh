@@ -101,6 +101,12 @@ expect 'judge: a byte too many' $?
 judged more 'refused 12'
 expect 'judge: an address too many' $?
 
+# of_set PROFILE BITS N WRONG: what a plan of this set gets: what `test` says where that is a refusal, else WRONG
+of_set() {
+    tested=$(./interleaver test "$1" "$2" "$3")
+    if [ "$tested" = accepted ]; then echo "$4"; else echo "$tested"; fi
+}
+
 # each number of its header changed: the form is left where a set's number is, else the file is refused
 at=0
 for number in 2 3 1 48 44 2 5 1 40 48 3; do
@@ -117,8 +123,13 @@ for number in 2 3 1 48 44 2 5 1 40 48 3; do
         done
         # shellcheck disable=SC2086
         made changed $changed / 0 16 0 0 0
+        # shellcheck disable=SC2086
+        set -- $changed
         case $at in
-            2 | 3 | 4 | 7 | 8 | 9) [ "$(answers judge "$work/changed" | grep -c '^plan')" -eq 2 ] ;;
+            2 | 3 | 4) judged changed "plan 1 $(of_set "$2" "$3" "$4" 'wrong 1 47')
+plan 2 wrong 0 40" ;;
+            7 | 8 | 9) judged changed "plan 1 wrong 2 46
+plan 2 $(of_set "$7" "$8" "$9" '')" ;;
             *) judged changed 'refused 12' ;;
         esac
         expect "judge: number $at of the header $other" $?
@@ -207,9 +218,22 @@ for words in '' '3 1' '3 1 48 3' '3 1 x' '3 1 -48' '3 1 48 stream=1'; do
     unwritten 'interleaver: expected plans PROFILE BITS N ..., three numbers a set, each of 1 to 10 digits up to 4294967295' $words
     expect "plans $words" $?
 done
-for words in 'judge' 'judge a b' 'differ a' 'differ a b c'; do
+for words in 'judge' 'judge a b' 'judge a=b' 'differ a' 'differ a b c'; do
     # shellcheck disable=SC2086
     ./interleaver $words >"$work/got" 2>"$work/said"
-    [ $? -eq 1 ] && [ ! -s "$work/got" ] && said "interleaver: expected ${words%% *} FILE"
+    [ $? -eq 1 ] && [ ! -s "$work/got" ] && case $words in
+        judge*) [ "$(cat "$work/said")" = 'interleaver: expected judge FILE' ] ;;
+        *) [ "$(cat "$work/said")" = 'interleaver: expected differ FILE FILE' ] ;;
+    esac
     expect "$words" $?
 done
+
+# `lines` answers none of the three; a path is taken up to 1,024 bytes
+printf 'judge samples/harbour.plan\ndiffer a b\nplans 3 1 48\n' | ./interleaver lines >"$work/got" 2>"$work/said"
+[ ! -s "$work/got" ] && [ "$(grep -c '^interleaver: expected a question, as lines answers only those$' "$work/said")" -eq 3 ]
+expect 'lines: plan files' $?
+dots=$(printf './%.0s' $(seq 502))
+[ "$(answers judge "${dots}samples/harbour.plan" | head -n 1)" = 'plan 1 equal' ]
+expect 'judge: a path of 1,024 bytes' $?
+[ "$(answers judge "./${dots}samples/harbour.plan")" = 'refused 12' ]
+expect 'judge: a path of 1,026 bytes' $?

@@ -1,4 +1,4 @@
-// Where two files differ, difference by difference, so that a program only prints.
+// Where two files differ, difference by difference: a program prints each, and asks again from behind it.
 use super::judging::UNFORMED;
 use plan_differ::Difference;
 use plan_differ::Next;
@@ -14,7 +14,7 @@ pub enum Differed {
     Refused(Refusal),
 }
 
-// A plan counted from 1, counted from 0. (Plan 0 stands for the first.)
+// The place of a plan, from 0, that is counted from 1. (Plan 0 stands for the first.)
 fn index_of(plan: u32) -> usize
     ensures { λ r. ⌜ r ≡ plan - 1 ⌝ }
 {

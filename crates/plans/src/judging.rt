@@ -21,12 +21,13 @@ pub enum Judged {
     Refused(Refusal),
 }
 
-// The refusal of a file that is not of the form, and of a plan that it doesn't have.
+// The refusal of a file that is not of the form.
 pub const UNFORMED: Refusal = Refusal {
     number: 12,
     size: 0,
 };
 
+// The refusal of a plan that the file doesn't have.
 const BEYOND: Refusal = Refusal { number: 4, size: 0 };
 
 // How many plans a file has. Refusal 12.
