@@ -3,7 +3,7 @@ use Prim.Native.Nat.{ℕ, zero, suc, max, _+_, _-_, _≤_, _<_}
 use mathlib.Core.Bool.{Bool, true, false, cond, _&&_}
 use mathlib.Core.List.{List, [], _∷_, _++_, map}
 use mathlib.Core.Logic.{_⊎_, inl, inr}
-use mathlib.Core.Path.{_≡_, refl, sym, _∙_}
+use mathlib.Core.Path.{_≡_, refl}
 use native.Mathlib.Omega.{arith}
 use lib.Dec.{ltb}
 use Rattle.laws.specs.Keep.{keep}
@@ -100,8 +100,7 @@ module _ (f g : List ℕ) where
   join : (i : ℕ) (ds es : List Difference) → Rising ds → All (λ d. planOf d ≡ i + 1) ds → Rising es → All (λ d. suc i + 1 ≤ planOf d) es → Rising (ds ++ es)
   join i [] es r a s b = s
   join i (d ∷ ds) es r a s b =
-      let e : planOf d ≡ i + 1 = a .0 in
-      (
+      let e : planOf d ≡ i + 1 = a .0 in (
         all-join (Before d) ds es (r .0) (all-same (λ x. suc i + 1 ≤ planOf x) (Before d) (λ x h. inl (omega arith)) es b),
         join i ds es (r .1) (a .1) s b,
       )

@@ -15,6 +15,7 @@ use Rattle.laws.specs.Keep.{keep}
 use Rattle.laws.specs.Cut.{keep-cut, kept-or-padding}
 use Rattle.laws.specs.Bare.{keep-bare}
 use Rattle.laws.specs.Kept.{passing, passing-same}
+use Rattle.laws.specs.Shared.{run-at}
 use Rattle.big_end.specs.Numbers.{pairAt}
 use Rattle.sets.specs.declared.Set.{Set}
 use Rattle.families.specs.Rules.{L}
@@ -164,9 +165,6 @@ pub compare-first : (s : Set) (xs : List ℕ) {w : Standing} → Stands s w → 
 unfolding keep
 compare-first s xs {w} h e = record { stands = h; few = omega arith; same = sym (ap (λ (k : ℕ). tallyOf (passing (wrong xs (listOf s)) 0 k)) e) }
 
-listed-at : (s : Set) (p : ℕ) → p < s .n → getD (listOf s) p 0 ≡ L s p
-listed-at s p h = getD-run (L s) 0 (s .n) p 0 h ∙ ap (L s) (zero-add p)
-
 module _ {s : Set} {xs : List ℕ} {w : Standing} {t : Tally} (r : Comparing s xs w t) {old new : List ℕ} {v : Standing} (q : Pieced s w old new v) where
   abbrev size : ℕ
   size = v .at - w .at
@@ -181,7 +179,7 @@ module _ {s : Set} {xs : List ℕ} {w : Standing} {t : Tally} (r : Comparing s x
       let a : getD new k 0 ≡ getD (listOf s) x 0 =
       sym (getD-take size new k 0 (omega arith)) ∙ ap (λ (l : List ℕ). getD l k 0) (q .list)
       ∙ getD-run (L s) (w .at) size k 0 (omega arith) ∙ ap (L s) (let z : w .at + k ≡ x = omega arith in z)
-      ∙ sym (listed-at s x (omega (arith, q .stands .inside))) in
+      ∙ sym (run-at (L s) (s .n) x (omega (arith, q .stands .inside))) in
       ap not (ap (among xs x) a
       ∙ sym (ap (λ (b : Bool). ltb x (length xs) && (b && eqb (getD xs x 0) (getD (listOf s) x 0)))
       (lt-ltb x (length (listOf s)) (omega (arith, length-run (L s) 0 (s .n), q .stands .inside)))))

@@ -10,7 +10,6 @@ use lib.ListN.{length}
 use borrow.Author.Tests.{ltb-false, eqb-false, eqb-true, not-false, ne-eqb, le-ltb}
 use Rattle.laws.specs.Outcome.{done, refused, Clear, first-clear, clear-first, clear-done, clear-front, clear-back, answer-clear}
 use Rattle.laws.specs.Sentences.{FirstTrue}
-use Rattle.sets.specs.declared.Set.{Set}
 use Rattle.sets.specs.Verdict.{setLines, refusal, verdictOf}
 use Rattle.sets.specs.Admits.{Accepted}
 use Rattle.sets.specs.Handed.{its-number}
