@@ -1,6 +1,7 @@
 -- `plan_form::well_formed` says whether a file is of the form: each return by the tests that led there.
 use Rattle.plan_form.specs.Meets.{too-long, too-short, no-plan, many-plans, header-cut, by-lists}
 use mathlib.Core.Path.{_∙_}
+use native.Mathlib.Omega.{arith}
 use borrow.Author.Needs.{needs}
 use Rattle.plan_form.proofs.well_formed.Statement.{statement}
 use Rattle.plan_form.proofs.well_formed.Tie as tie
@@ -18,7 +19,7 @@ returns-3 : tie.Need-returns-3
 returns-3 c = no-plan _ (c .before .before .before .if1 .left) (c .before .before .if2 .left) (c .before .plans-in .ensures .0) (c .if3 .taken)
 
 returns-4 : tie.Need-returns-4
-returns-4 c = many-plans _ (c .before .before .before .before .if1 .left) (c .before .before .before .if2 .left) (c .before .before .plans-in .ensures .0) (c .before .if3 .left) (c .if4 .taken)
+returns-4 c = many-plans _ (c .before .before .before .before .if1 .left) (c .before .before .before .if2 .left) (c .before .before .plans-in .ensures .0) (c .before .if3 .left) (omega (arith, c .if4 .taken))
 
 mul-if5 : tie.Need-mul-if5
 mul-if5 c = search needs

@@ -1,5 +1,6 @@
 -- `plans::writing::write` asks for the length, looks at the buffer, and stores the file.
 use mathlib.Core.Path.{sym, ap, _∙_}
+use native.Mathlib.Omega.{arith}
 use lib.ListN.{length}
 use Rattle.plans.specs.Writing.{sayLength, bufferOf, write-stops, write-keeps, write-six, write-done, write-new, write-filed}
 use borrow.Author.Needs.{needs}
@@ -21,7 +22,7 @@ cast-if1 c = search needs
 returns : tie.Need-returns
 unfolding bufferOf
 returns c =
-    let q = write-six _ (length (c .before .before .before .before .before .before .before .args .out .now)) (sym (ap sayLength (c .before .before .bytes .given .1)) ∙ c .before .before .before .before .length-of .ensures) (c .if1 .taken) in
+    let q = write-six _ (length (c .before .before .before .before .before .before .before .args .out .now)) (sym (ap sayLength (c .before .before .bytes .given .1)) ∙ c .before .before .before .before .length-of .ensures) (λ e. omega (arith, e, c .if1 .taken)) in
     (q, write-keeps _ _ q _ _)
 
 slice-aggregate-put-file : tie.Need-slice-aggregate-put-file
