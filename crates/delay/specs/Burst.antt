@@ -4,13 +4,14 @@ use Prim.Native.Nat.{ℕ, suc, _+_, _-_, _*_, _/_, _%_, _≤_, _<_}
 use mathlib.Core.Path.{_≡_, sym, ap, _∙_}
 use mathlib.Core.Logic.{_≢_}
 use mathlib.Core.List.{List}
-use native.Mathlib.Nat.{add-mod-right, mod-lt, mul-add, mul-pos, mul-suc, mul-comm, le-mul-of-pos-right, div-add-mod', suc-mul}
+use native.Mathlib.Nat.{add-mod-right, mod-lt, zero-add, mul-add, mul-pos, mul-suc, mul-comm, le-mul-of-pos-right, div-add-mod', suc-mul}
 use native.Mathlib.Omega.{arith}
 use native.Mathlib.Decide.{decLt}
 use lib.Arith.{digits-mod}
 use lib.ListN.{length, getD, replicate}
 use Rattle.laws.specs.declared.Way.the-variants.{Deinterleaver}
-use Rattle.delay.specs.Machine.{offset, slotAt, runOutput, delayAt, comesAt, spreadOf}
+use Rattle.delay.specs.Machine.{Machine, machine, Stand, offset, runOutput, comesAt, spreadOf}
+use Rattle.delay.specs.Bytes.{ringAt, slotAt, delayAt}
 use Rattle.delay.specs.Cuts.{length-output}
 use Rattle.delay.specs.Delay.{late-early, same-delay, brings, fresh}
 
@@ -37,59 +38,71 @@ module _ {A : Type 0} (f : A) where
     pub nowhere-else : (w : ℕ) → w < length ys → getD ys w f ≡ x → w ≡ u
 
 module _ (b s : ℕ) (hb : 0 < b) (hs : 0 < s) where
-  abbrev delay : ℕ → ℕ
-  delay = delayAt Deinterleaver b s
-
-  -- the place is the byte's own number and its delay ..
-  comes-late : (a : ℕ) → comesAt b s a ≡ a + delay a
-  unfolding comesAt delayAt
-  comes-late a = rw (mul-comm s b)
+  comes-is : (a : ℕ) → comesAt b s a ≡ a + b * s * (b - 1 - a % b)
+  unfolding comesAt
+  comes-is a = rw (mul-comm s b)
 
   pub comes-behind : (a : ℕ) → a ≤ comesAt b s a
-  comes-behind a = rw (comes-late a) (omega arith)
+  comes-behind a = rw (comes-is a) (omega arith)
 
-  -- .. which is the delay at that place, too ..
-  its-delay : (a : ℕ) → comesAt b s a ≡ a + delay (comesAt b s a)
-  its-delay a =
-      let same : delay (comesAt b s a) ≡ delay a = ap delay (comes-late a) ∙ same-delay Deinterleaver b s hb hs Deinterleaver a a in
-      comes-late a ∙ ap (λ (d : ℕ). a + d) (sym same)
+  -- ---- of a deinterleaver at branch 0, whatever its places
 
-  -- .. and no other place lies its own delay behind the byte
-  its-place : (a u : ℕ) → u ≡ a + delay u → u ≡ comesAt b s a
-  its-place a u e =
-      let same : delay u ≡ delay a = ap delay e ∙ same-delay Deinterleaver b s hb hs Deinterleaver a u in
-      e ∙ ap (λ (d : ℕ). a + d) same ∙ sym (comes-late a)
+  module _ (R : Stand) (at-first : R .branch ≡ 0) where
+    abbrev back : Machine
+    back = machine b s hb hs Deinterleaver
 
-  module _ {A : Type 0} (f : A) (xs : List A) where
-    abbrev output : List A
-    output = runOutput (slotAt Deinterleaver b s) suc 0 (replicate (offset s b) f) xs
+    abbrev delay : ℕ → ℕ
+    delay = delayAt back R
 
-    -- the byte at a place is the one that lies the place's delay before it
-    stands : (a u : ℕ) → u < length xs → u ≡ a + delay u → getD output u f ≡ getD xs a f
-    stands a u h e = fresh Deinterleaver b s hb hs f xs u h ∙ brings Deinterleaver b s hb hs f (λ n. getD xs n f) a u e
+    -- the place is the byte's own number and its delay ..
+    comes-late : (a : ℕ) → comesAt b s a ≡ a + delay a
+    unfolding delayAt ringAt
+    comes-late a = comes-is a ∙ rw (at-first, zero-add a)
 
-    -- byte a comes out at its place ..
-    pub comes-out : (a : ℕ) → comesAt b s a < length xs → getD output (comesAt b s a) f ≡ getD xs a f
-    comes-out a h = stands a (comesAt b s a) h (its-delay a)
+    -- .. which is the delay at that place, too ..
+    its-delay : (a : ℕ) → comesAt b s a ≡ a + delay (comesAt b s a)
+    unfolding delayAt
+    its-delay a =
+        let same : delay (comesAt b s a) ≡ delay a = ap delay (comes-late a) ∙ same-delay back R a (ringAt back R a) in
+        comes-late a ∙ ap (λ (d : ℕ). a + d) (sym same)
 
-    -- .. and at no other
-    no-other : Labels f xs → (a u : ℕ) → a < length xs → u < length xs → getD output u f ≡ getD xs a f → u ≡ comesAt b s a
-    no-other labels a u l h e = go (decLt u (delay u))
-      where
-        go : Dec (u < delay u) → u ≡ comesAt b s a
-        go (yes early) =
-            let fill : getD output u f ≡ f = fresh Deinterleaver b s hb hs f xs u h ∙ late-early f (delay u) (λ n. getD xs n f) u early in
-            absurd (labels .not-fill a l (sym e ∙ fill))
-        go (no n) =
-            let k : u ≡ u - delay u + delay u = omega (arith, n) in
-            let own : u - delay u ≡ a = labels .own (u - delay u) a (omega arith) l (sym (stands (u - delay u) u h k) ∙ e) in
-            its-place a u (omega (arith, k, own))
+    -- .. and no other place lies its own delay behind the byte
+    its-place : (a u : ℕ) → u ≡ a + delay u → u ≡ comesAt b s a
+    unfolding delayAt
+    its-place a u e =
+        let same : delay u ≡ delay a = ap delay e ∙ same-delay back R a (ringAt back R u) in
+        e ∙ ap (λ (d : ℕ). a + d) same ∙ sym (comes-late a)
 
-    pub only : Labels f xs → (a : ℕ) → comesAt b s a < length xs → Only f output (comesAt b s a) (getD xs a f)
-    only labels a l =
-        let long : length output ≡ length xs = length-output (slotAt Deinterleaver b s) suc xs 0 (replicate (offset s b) f) in
-        let la : a < length xs = omega (arith, l, comes-behind a) in
-        record { within = rw long l; there = comes-out a l; nowhere-else = λ w lw e. no-other labels a w la (rw long at lw) e }
+    module _ {A : Type 0} (f : A) (xs : List A) where
+      abbrev output : List A
+      output = runOutput (slotAt back R) suc 0 (replicate (offset s b) f) xs
+
+      -- the byte at a place is the one that lies the place's delay before it
+      stands : (a u : ℕ) → u < length xs → u ≡ a + delay u → getD output u f ≡ getD xs a f
+      stands a u h e = fresh back R f xs u h ∙ brings back R f (λ n. getD xs n f) a u e
+
+      -- byte a comes out at its place ..
+      pub comes-out : (a : ℕ) → comesAt b s a < length xs → getD output (comesAt b s a) f ≡ getD xs a f
+      comes-out a h = stands a (comesAt b s a) h (its-delay a)
+
+      -- .. and at no other
+      no-other : Labels f xs → (a u : ℕ) → a < length xs → u < length xs → getD output u f ≡ getD xs a f → u ≡ comesAt b s a
+      no-other labels a u l h e = go (decLt u (delay u))
+        where
+          go : Dec (u < delay u) → u ≡ comesAt b s a
+          go (yes early) =
+              let fill : getD output u f ≡ f = fresh back R f xs u h ∙ late-early f (delay u) (λ n. getD xs n f) u early in
+              absurd (labels .not-fill a l (sym e ∙ fill))
+          go (no n) =
+              let k : u ≡ u - delay u + delay u = omega (arith, n) in
+              let own : u - delay u ≡ a = labels .own (u - delay u) a (omega arith) l (sym (stands (u - delay u) u h k) ∙ e) in
+              its-place a u (omega (arith, k, own))
+
+      pub only : Labels f xs → (a : ℕ) → comesAt b s a < length xs → Only f output (comesAt b s a) (getD xs a f)
+      only labels a l =
+          let long : length output ≡ length xs = length-output (slotAt back R) suc xs 0 (replicate (offset s b) f) in
+          let la : a < length xs = omega (arith, l, comes-behind a) in
+          record { within = rw long l; there = comes-out a l; nowhere-else = λ w lw e. no-other labels a w la (rw long at lw) e }
 
   -- ---- two near bytes
 
@@ -113,10 +126,9 @@ module _ (b s : ℕ) (hb : 0 < b) (hs : 0 < s) where
       ap (λ (n : ℕ). n % b) e ∙ digits-mod (a / b) l
 
   near : (a d : ℕ) → suc d < b → spreadOf b s ≤ distance (comesAt b s a) (comesAt b s (a + suc d))
-  unfolding delayAt
-  near a d h = rw (comes-late a, comes-late (a + suc d)) (go (decLt (a % b + suc d) b))
+  near a d h = rw (comes-is a, comes-is (a + suc d)) (go (decLt (a % b + suc d) b))
     where
-      go : Dec (a % b + suc d < b) → spreadOf b s ≤ distance (a + delay a) (a + suc d + delay (a + suc d))
+      go : Dec (a % b + suc d < b) → spreadOf b s ≤ distance (a + b * s * (b - 1 - a % b)) (a + suc d + b * s * (b - 1 - (a + suc d) % b))
       go (yes l) =
           before _ _ (spreadOf b s) (inside a d (b - 1 - a % b) (b - 1 - (a + suc d) % b) (omega (arith, same-turn a (suc d) l, l)))
       go (no n) =
@@ -141,11 +153,11 @@ module _ (b s : ℕ) (hb : 0 < b) (hs : 0 < s) where
 
   -- .. and each two neighbours of one turn just so far
   pub reached : (a : ℕ) → a % b + 1 < b → distance (comesAt b s a) (comesAt b s (a + 1)) ≡ spreadOf b s
-  unfolding delayAt spreadOf
+  unfolding spreadOf
   reached a l =
       let e : b - 1 - a % b ≡ suc (b - 1 - (a + 1) % b) = omega (arith, same-turn a 1 l, l) in
       let p : b * s * (b - 1 - a % b) ≡ b * s * (b - 1 - (a + 1) % b) + b * s = ap (λ (n : ℕ). b * s * n) e ∙ mul-suc (b * s) (b - 1 - (a + 1) % b) in
-      rw (comes-late a, comes-late (a + 1)) (omega (arith, p, mul-pos hb hs))
+      rw (comes-is a, comes-is (a + 1)) (omega (arith, p, mul-pos hb hs))
 
   -- bytes as far apart as there are branches come out just as far apart
   pub turn-later : (a : ℕ) → comesAt b s (a + b) ≡ comesAt b s a + b

@@ -1,4 +1,4 @@
--- Laws of a run, over any record and any bytes: it may be cut anywhere; a record that stands for another gives the same run; changing every
+-- Laws of a run, over any record and any bytes: it may be cut anywhere; records that stand for others give the same run; changing every
 -- byte before it is changing every byte after it.
 use Prim.Native.Nat.{ℕ, zero, suc, _+_}
 use mathlib.Core.Path.{_≡_, refl, sym, ap, _∙_}
@@ -36,24 +36,24 @@ module _ {A R : Type 0} (slot : R → Slot) (next : R → R) where
   length-store [] r store = refl
   length-store (x ∷ xs) r store = length-store xs (next r) (keeps (slot r) store x) ∙ length-keeps (slot r) store x
 
--- records of R that stand for those of Q, by rep
-module _ {A R Q : Type 0} (slot : R → Slot) (next : R → R) (slot′ : Q → Slot) (next′ : Q → Q) (rep : Q → R)
-    (slots : (q : Q) → slot (rep q) ≡ slot′ q) (nexts : (q : Q) → next (rep q) ≡ rep (next′ q)) where
-  pub output-rep : (xs : List A) (q : Q) (store : List A) → runOutput slot next (rep q) store xs ≡ runOutput slot′ next′ q store xs
+-- records of R that stand for those of Q
+module _ {A R Q : Type 0} (slot : R → Slot) (next : R → R) (slot′ : Q → Slot) (next′ : Q → Q) (Stands : Q → R → Type 0)
+    (slots : (q : Q) (r : R) → Stands q r → slot r ≡ slot′ q) (nexts : (q : Q) (r : R) → Stands q r → Stands (next′ q) (next r)) where
+  pub output-alike : (xs : List A) (q : Q) (r : R) (store : List A) → Stands q r → runOutput slot next r store xs ≡ runOutput slot′ next′ q store xs
   unfolding runOutput
-  output-rep [] q store = refl
-  output-rep (x ∷ xs) q store =
-      rw (slots q, nexts q) (ap (λ (l : List A). gives (slot′ q) store x ∷ l) (output-rep xs (next′ q) (keeps (slot′ q) store x)))
+  output-alike [] q r store h = refl
+  output-alike (x ∷ xs) q r store h =
+      rw (slots q r h) (ap (λ (l : List A). gives (slot′ q) store x ∷ l) (output-alike xs (next′ q) (next r) (keeps (slot′ q) store x) (nexts q r h)))
 
-  pub store-rep : (xs : List A) (q : Q) (store : List A) → runStore slot next (rep q) store xs ≡ runStore slot′ next′ q store xs
+  pub store-alike : (xs : List A) (q : Q) (r : R) (store : List A) → Stands q r → runStore slot next r store xs ≡ runStore slot′ next′ q store xs
   unfolding runStore
-  store-rep [] q store = refl
-  store-rep (x ∷ xs) q store = rw (slots q, nexts q) (store-rep xs (next′ q) (keeps (slot′ q) store x))
+  store-alike [] q r store h = refl
+  store-alike (x ∷ xs) q r store h = rw (slots q r h) (store-alike xs (next′ q) (next r) (keeps (slot′ q) store x) (nexts q r h))
 
-  pub record-rep : (xs : List A) (q : Q) → runRecord next (rep q) xs ≡ rep (runRecord next′ q xs)
+  pub record-alike : (xs : List A) (q : Q) (r : R) → Stands q r → Stands (runRecord next′ q xs) (runRecord next r xs)
   unfolding runRecord
-  record-rep [] q = refl
-  record-rep (x ∷ xs) q = rw (nexts q) (record-rep xs (next′ q))
+  record-alike [] q r h = h
+  record-alike (x ∷ xs) q r h = record-alike xs (next′ q) (next r) (nexts q r h)
 
 pub record-count : {A : Type 0} (xs : List A) (t : ℕ) → runRecord suc t xs ≡ t + length xs
 unfolding runRecord

@@ -1,34 +1,29 @@
--- The first byte of a ring, from byte t on, over the number of branches.
-use Prim.Native.Nat.{ℕ, suc, _+_, _-_, _*_, _/_, _%_, _≤_, _<_}
-use mathlib.Core.Path.{_≡_, refl}
-use native.Mathlib.Nat.{mod-lt, div-add-mod', suc-mul}
+-- The first byte of a ring, from where a machine stands.
+use Prim.Native.Nat.{ℕ, _+_, _-_, _%_, _≤_, _<_}
+use mathlib.Core.Path.{_≡_}
+use native.Mathlib.Nat.{mod-eq-of-lt, add-mod-right}
 use native.Mathlib.Omega.{arith}
-use lib.Arith.{digits-mod}
-use Rattle.laws.specs.declared.Way.{Way}
-use Rattle.laws.specs.declared.Way.the-variants.{Interleaver, Deinterleaver}
-use Rattle.delay.specs.Machine.{ringOf}
-use Rattle.delay.specs.Slots.{ring-lt}
-use Rattle.delay.specs.Lane.{ringAt, Leads}
+use Rattle.delay.specs.Machine.{Machine, Stand, ringOf}
+use Rattle.delay.specs.Slots.{ring-lt, there-and-back}
+use Rattle.delay.specs.Bytes.{ringAt}
+use Rattle.delay.specs.Lane.{Leads}
 
--- the ring of ring x's branch is x: branches and rings are counted from one end, or from both
-there-and-back : (way : Way) (b x : ℕ) → x < b → ringOf way b (ringOf way b x) ≡ x
-there-and-back Interleaver b x h = refl
-there-and-back Deinterleaver b x h = omega arith
+module _ (M : Machine) (R : Stand) (x : ℕ) {j : ℕ} (h : x < M .branches) (e : j ≡ ringOf (M .way) (M .branches) x) where
+  below : j < M .branches
+  below = rw e (ring-lt (M .way) (M .branches) x h)
 
-module _ (way : Way) (b t x : ℕ) {j m : ℕ} (h : x < b) (e : j ≡ ringOf way b x) (em : m ≡ t % b) where
-  below : j < b
-  below = rw e (ring-lt way b x h)
-
-  found : (q : ℕ) {k : ℕ} → k < b → t + k ≡ q * b + j → Leads way b t x k
+  found : {k : ℕ} → k < M .branches → (R .branch + k) % M .branches ≡ j → Leads M R x k
   unfolding ringAt
-  found q l n = record { few = l; here = rw (n, digits-mod q below, e) (there-and-back way b x h) }
+  found l n = record { few = l; here = rw (n, e) (there-and-back (M .way) (M .branches) x h) }
 
   -- its branch is still to come in this turn ..
-  pub leads-on : m ≤ j → Leads way b t x (j - m)
-  leads-on l = found (t / b) (omega (arith, below)) (omega (arith, div-add-mod' t b))
+  pub leads-on : R .branch ≤ j → Leads M R x (j - R .branch)
+  leads-on l =
+      let z : R .branch + (j - R .branch) ≡ j = omega arith in
+      found (omega (arith, below)) (rw z (mod-eq-of-lt below))
 
   -- .. or comes in the next
-  pub leads-round : j < m → Leads way b t x (j + b - m)
-  leads-round l =
-      let n : t % b < b = mod-lt t (omega arith) in
-      found (suc (t / b)) (omega arith) (omega (arith, div-add-mod' t b, suc-mul (t / b) b))
+  pub leads-round : j < R .branch → R .branch < M .branches → Leads M R x (j + M .branches - R .branch)
+  leads-round l m =
+      let z : R .branch + (j + M .branches - R .branch) ≡ j + M .branches = omega arith in
+      found (omega arith) (rw (z, add-mod-right j (M .branches)) (mod-eq-of-lt below))

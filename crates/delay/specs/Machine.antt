@@ -1,12 +1,28 @@
--- The branch machine, over the number of branches and the step; 12 branches and steps of 17 bytes are ETSI EN 300 744, 4.3.2. Its bytes
--- may be of any type, and its record too: slot tells where the record's next byte goes, next is the record after it.
-use Prim.Native.Nat.{ℕ, zero, suc, _+_, _-_, _*_, _/_, _%_}
+-- The branch machine, over the number of branches and the step: 12 branches and steps of 17 bytes are ETSI EN 300 744, 4.3.2; 52 and 4 are
+-- ATSC A/53. It stands at a branch, with a place for each ring. Its bytes may be of any type. These are definitions.
+use Prim.Native.Nat.{ℕ, zero, suc, _+_, _-_, _*_, _/_, _%_, _<_}
 use mathlib.Core.Bool.{cond}
 use mathlib.Core.List.{List, [], _∷_}
-use lib.ListN.{getD, set}
+use lib.ListN.{getD, set, replicate}
 use lib.Dec.{ltb}
 use Rattle.laws.specs.declared.Way.{Way}
 use Rattle.laws.specs.declared.Way.the-variants.{Interleaver, Deinterleaver}
+
+-- a machine: which of the two, its branches and its step
+pub record Machine : Type 0 where
+  pub way : Way
+  pub branches : ℕ
+  pub step : ℕ
+  pub some-branches : 0 < branches
+  pub some-step : 0 < step
+
+abbrev pub machine : (branches step : ℕ) → 0 < branches → 0 < step → Way → Machine
+machine branches step hb hs way = record { way = way; branches = branches; step = step; some-branches = hb; some-step = hs }
+
+-- where it stands: the branch of its next byte, and the place of each ring, in rising ring size
+pub record Stand : Type 0 where
+  pub branch : ℕ
+  pub places : List ℕ
 
 -- branch j is a queue of step·x bytes: x is j in the interleaver, and branches - 1 - j in the deinterleaver
 abbrev pub ringOf : Way → ℕ → ℕ → ℕ
@@ -22,14 +38,34 @@ pub data Slot : Type 0 where
   through : Slot
   place : ℕ → Slot
 
--- the n-th byte of a ring of step·x bytes uses slot n mod step·x of it; with x = 0 it passes through
+-- place n of the ring of step·x bytes; with x = 0 a byte passes through
 abbrev pub slotIn : ℕ → ℕ → ℕ → Slot
 slotIn step zero n = through
-slotIn step (suc x) n = place (offset step (suc x) + n % (step * suc x))
+slotIn step (suc x) n = place (offset step (suc x) + n)
 
--- byte t of the stream goes through branch t mod branches, as the (t / branches)-th of its ring
-unfoldable pub slotAt : Way → ℕ → ℕ → ℕ → Slot
-slotAt way branches step t = slotIn step (ringOf way branches (t % branches)) (t / branches)
+-- the place of ring x
+abbrev pub placeOf : Stand → ℕ → ℕ
+placeOf R x = getD (R .places) (x - 1) 0
+
+-- the places when a byte of ring x has passed
+abbrev pub stepped : ℕ → ℕ → List ℕ → List ℕ
+stepped step zero places = places
+stepped step (suc x) places = set places x ((getD places x 0 + 1) % (step * suc x))
+
+module _ (M : Machine) where
+  -- the ring of the next byte, its slot, and where the machine stands after it
+  abbrev pub ringNow : Stand → ℕ
+  ringNow R = ringOf (M .way) (M .branches) (R .branch)
+
+  unfoldable pub slotOf : Stand → Slot
+  slotOf R = slotIn (M .step) (ringNow R) (placeOf R (ringNow R))
+
+  unfoldable pub nextOf : Stand → Stand
+  nextOf R = record { branch = (R .branch + 1) % M .branches; places = stepped (M .step) (ringNow R) (R .places) }
+
+-- at its start: branch 0, and each of n places 0
+unfoldable pub startStand : ℕ → Stand
+startStand n = record { branch = 0; places = replicate n 0 }
 
 module _ {A : Type 0} where
   -- the old byte goes out (a store of the machine's length lacks none: where one does, b itself stands in) ..
@@ -57,11 +93,7 @@ module _ {A R : Type 0} (next : R → R) where
   runRecord r [] = r
   runRecord r (b ∷ bs) = runRecord (next r) bs
 
--- how many places behind its input the byte at place t comes out
-unfoldable pub delayAt : Way → ℕ → ℕ → ℕ → ℕ
-delayAt way branches step t = branches * step * ringOf way branches (t % branches)
-
--- channel byte a comes out of the deinterleaver at this place
+-- channel byte a comes out of a started deinterleaver at this place
 unfoldable pub comesAt : ℕ → ℕ → ℕ → ℕ
 comesAt branches step a = a + step * branches * (branches - 1 - a % branches)
 

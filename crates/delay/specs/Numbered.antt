@@ -9,7 +9,8 @@ use lib.ListN.{length, getD, replicate}
 use Rattle.laws.specs.Run.{run, length-run, getD-run, run-getD}
 use Rattle.laws.specs.Blind.{map-run}
 use Rattle.laws.specs.declared.Way.the-variants.{Deinterleaver}
-use Rattle.delay.specs.Machine.{Slot, offset, slotAt, runOutput, comesAt}
+use Rattle.delay.specs.Machine.{machine, Stand, Slot, offset, runOutput, comesAt}
+use Rattle.delay.specs.Bytes.{slotAt}
 use Rattle.delay.specs.Cuts.{replicate-map, output-map}
 use Rattle.delay.specs.Burst.{Labels, Only, only, comes-behind}
 
@@ -53,9 +54,9 @@ module _ {A : Type 0} (f : A) where
       rw (bytes, ← fills) at (output-map byteOf slot next (numbered xs) r (replicate n (0, f)))
 
   -- of a deinterleaver's output, byte a, and no equal one, stands at its place and nowhere else
-  module _ (b s : ℕ) (hb : 0 < b) (hs : 0 < s) where
+  module _ (b s : ℕ) (hb : 0 < b) (hs : 0 < s) (R : Stand) (at-first : R .branch ≡ 0) where
     pub stands-alone : (xs : List A) (a : ℕ) → comesAt b s a < length xs
-        → Only (0, f) (runOutput (slotAt Deinterleaver b s) suc 0 (replicate (offset s b) (0, f)) (numbered xs)) (comesAt b s a) (pair xs a)
+        → Only (0, f) (runOutput (slotAt (machine b s hb hs Deinterleaver) R) suc 0 (replicate (offset s b) (0, f)) (numbered xs)) (comesAt b s a) (pair xs a)
     stands-alone xs a l =
         let la : a < length xs = omega (arith, l, comes-behind b s hb hs a) in
-        rw (numbered-at xs a la) at (only b s hb hs (0, f) (numbered xs) (labelled xs) a (rw (numbered-long xs) l))
+        rw (numbered-at xs a la) at (only b s hb hs R at-first (0, f) (numbered xs) (labelled xs) a (rw (numbered-long xs) l))

@@ -1,4 +1,4 @@
--- The deinterleaver behind the interleaver: the input again, branches·step·(branches - 1) bytes late, behind f.
+-- The deinterleaver behind the interleaver, both standing at one branch: the input again, branches·step·(branches - 1) bytes late, behind f.
 use Prim.Native.Nat.{ℕ, suc, _+_, _-_, _*_, _%_, _<_}
 use mathlib.Core.Path.{_≡_, sym, ap, _∙_}
 use mathlib.Core.List.{List, _++_}
@@ -8,7 +8,8 @@ use native.Mathlib.Decide.{decLt}
 use lib.ListN.{length, getD, replicate, take, length-append, length-replicate, getD-replicate, List·getD-append}
 use lib.Seq.{ext-getD, getD-take, getD-append-add, length-take-le}
 use Rattle.laws.specs.declared.Way.the-variants.{Interleaver, Deinterleaver}
-use Rattle.delay.specs.Machine.{offset, slotAt, runOutput, delayAt, late}
+use Rattle.delay.specs.Machine.{Machine, machine, Stand, offset, runOutput, late}
+use Rattle.delay.specs.Bytes.{ringAt, slotAt, delayAt}
 use Rattle.delay.specs.Cuts.{length-output}
 use Rattle.delay.specs.Delay.{late-early, late-from, same-delay, brings, fresh}
 
@@ -23,24 +24,36 @@ late-late f d e input t = go (decLt t d)
         let a : t + e ≡ t - d + (d + e) = omega (arith, n) in
         rw a (late-from f (d + e) input (t - d)) ∙ sym (late-from f d input (t - d)) ∙ ap (late f d input) k
 
-module _ (b s : ℕ) (hb : 0 < b) (hs : 0 < s) where
+module _ (b s : ℕ) (hb : 0 < b) (hs : 0 < s) (R : Stand) where
+  abbrev forth : Machine
+  forth = machine b s hb hs Interleaver
+
+  abbrev back : Machine
+  back = machine b s hb hs Deinterleaver
+
   -- the delay of the two together, whatever the branch
-  delays : (t : ℕ) → delayAt Interleaver b s t + delayAt Deinterleaver b s t ≡ b * s * (b - 1)
-  unfolding delayAt
+  delays : (t : ℕ) → delayAt forth R t + delayAt back R t ≡ b * s * (b - 1)
+  unfolding delayAt ringAt
   delays t =
-      let e : t % b + (b - 1 - t % b) ≡ b - 1 = omega (arith, mod-lt t hb) in
-      sym (mul-add (b * s) (t % b) (b - 1 - t % b)) ∙ ap (λ (k : ℕ). b * s * k) e
+      let j = (R .branch + t) % b in
+      let e : j + (b - 1 - j) ≡ b - 1 = omega (arith, mod-lt (R .branch + t) hb) in
+      sym (mul-add (b * s) j (b - 1 - j)) ∙ ap (λ (k : ℕ). b * s * k) e
+
+  -- a byte is late in the interleaver as it was before it was late in the deinterleaver
+  as-late : (t k : ℕ) → t + delayAt back R k ≡ k → delayAt forth R t ≡ delayAt forth R k
+  unfolding delayAt
+  as-late t k e = sym (ap (delayAt forth R) (sym e) ∙ same-delay forth R t (ringAt back R k))
 
   pub round : {A : Type 0} (f : A) (xs : List A) (t : ℕ) → t < length xs
-      → getD (runOutput (slotAt Deinterleaver b s) suc 0 (replicate (offset s b) f) (runOutput (slotAt Interleaver b s) suc 0 (replicate (offset s b) f) xs)) t f
+      → getD (runOutput (slotAt back R) suc 0 (replicate (offset s b) f) (runOutput (slotAt forth R) suc 0 (replicate (offset s b) f) xs)) t f
       ≡ late f (b * s * (b - 1)) (λ n. getD xs n f) t
-  round {A} f xs t h = fresh Deinterleaver b s hb hs f ys t (omega (arith, length-output (slotAt Interleaver b s) suc xs 0 (replicate (offset s b) f))) ∙ go (decLt t d)
+  round {A} f xs t h = fresh back R f ys t (omega (arith, length-output (slotAt forth R) suc xs 0 (replicate (offset s b) f))) ∙ go (decLt t d)
     where
       ys : List A
-      ys = runOutput (slotAt Interleaver b s) suc 0 (replicate (offset s b) f) xs
+      ys = runOutput (slotAt forth R) suc 0 (replicate (offset s b) f) xs
 
       d : ℕ
-      d = delayAt Deinterleaver b s t
+      d = delayAt back R t
 
       go : Dec (t < d) → late f d (λ n. getD ys n f) t ≡ late f (b * s * (b - 1)) (λ n. getD xs n f) t
       go (yes g) =
@@ -48,11 +61,11 @@ module _ (b s : ℕ) (hb : 0 < b) (hs : 0 < s) where
       go (no n) =
           let k : t - d + d ≡ t = omega (arith, n) in
           let g : t - d < length xs = omega arith in
-          brings Deinterleaver b s hb hs f (λ m. getD ys m f) (t - d) t (sym k)
-          ∙ fresh Interleaver b s hb hs f xs (t - d) g
-          ∙ ap (λ (m : ℕ). late f m (λ n. getD xs n f) (t - d)) (sym (same-delay Deinterleaver b s hb hs Interleaver (t - d) t) ∙ ap (delayAt Interleaver b s) k)
-          ∙ sym (late-late f (delayAt Interleaver b s t) d (λ n. getD xs n f) (t - d))
-          ∙ ap (late f (delayAt Interleaver b s t + d) (λ n. getD xs n f)) k
+          brings back R f (λ m. getD ys m f) (t - d) t (sym k)
+          ∙ fresh forth R f xs (t - d) g
+          ∙ ap (λ (m : ℕ). late f m (λ n. getD xs n f) (t - d)) (as-late (t - d) t k)
+          ∙ sym (late-late f (delayAt forth R t) d (λ n. getD xs n f) (t - d))
+          ∙ ap (late f (delayAt forth R t + d) (λ n. getD xs n f)) k
           ∙ ap (λ (m : ℕ). late f m (λ n. getD xs n f) t) (delays t)
 
 -- a list that is another, d late behind f, and as long

@@ -3,11 +3,12 @@ use Prim.Native.Nat.{ℕ, zero, suc, _+_, _-_, _*_, _/_, _%_, _≤_, _<_}
 use mathlib.Core.Path.{_≡_, refl, ap, _∙_}
 use Rattle.laws.specs.declared.Way.{Way}
 use Rattle.laws.specs.declared.Way.the-variants.{Interleaver, Deinterleaver}
-use native.Mathlib.Nat.{le-refl, mul-zero, mul-suc, suc-mul, mul-right-comm, add-zero, add-suc, add-mul-div-right, mod-lt, mul-pos, div-add-mod', lt-of-mul-lt-mul-right, mul-le-mul-right, zero-lt-suc, not-suc-le-zero, le-of-suc-le-suc}
+use native.Mathlib.Nat.{le-refl, mul-zero, mul-suc, suc-mul, mul-right-comm, add-zero, add-suc, add-mul-div-right, div-add-mod', lt-of-mul-lt-mul-right, mul-le-mul-right, zero-lt-suc, not-suc-le-zero, le-of-suc-le-suc}
 use mathlib.Core.List.{List, [], _∷_}
 use native.Mathlib.Omega.{arith}
+use native.Mathlib.Decide.{decLt}
 use lib.ListN.{length, getD, length-set}
-use Rattle.delay.specs.Machine.{Slot, through, place, ringOf, offset, slotIn, slotAt, keeps}
+use Rattle.delay.specs.Machine.{Slot, through, place, ringOf, offset, slotIn, keeps}
 
 -- ---- offsets: a ring begins where the one before it ends
 
@@ -42,21 +43,61 @@ pub ring-inj : (way : Way) (b j k : ℕ) → j < b → k < b → ringOf way b j 
 ring-inj Interleaver b j k h g e = e
 ring-inj Deinterleaver b j k h g e = omega arith
 
+-- the ring of ring x's branch is x: branches and rings are counted from one end, or from both
+pub there-and-back : (way : Way) (b x : ℕ) → x < b → ringOf way b (ringOf way b x) ≡ x
+there-and-back Interleaver b x h = refl
+there-and-back Deinterleaver b x h = omega arith
+
 -- ---- a place in the store
 
-pub at-slot : (s x n i : ℕ) → slotIn s x n ≡ place i → (0 < x) × (i ≡ offset s x + n % (s * x))
+-- place p of the store lies in ring x
+pub record Inside (s x p : ℕ) : Type 0 where
+  pub low : offset s x ≤ p
+  pub high : p < offset s (suc x)
+
+-- in one ring
+pub inside-one : (s x y p : ℕ) → Inside s x p → Inside s y p → x ≡ y
+inside-one s x y p h g = go (decLt x y) (decLt y x)
+  where
+    go : Dec (x < y) → Dec (y < x) → x ≡ y
+    go (yes l) d = absurd (omega (arith, h .high, g .low, offset-suc s x, offset-end s x y l))
+    go (no l) (yes m) = absurd (omega (arith, h .low, g .high, offset-suc s y, offset-end s y x m))
+    go (no l) (no m) = omega (arith, l, m)
+
+-- before a later ring begins
+pub inside-lt : (s x n p : ℕ) → x < n → Inside s x p → p < offset s n
+inside-lt s x n p h g = omega (arith, g .high, offset-suc s x, offset-end s x n h)
+
+-- ring 0 has no place
+pub inside-none : (s p : ℕ) → Inside s 0 p → ⊥
+unfolding offset
+inside-none s p h = omega (arith, h .low, h .high)
+
+-- each place before ring n lies in a ring
+pub record Found (s n p : ℕ) : Type 0 where
+  pub ring : ℕ
+  pub few : ring < n
+  pub inside : Inside s ring p
+
+none-first : (s : ℕ) → offset s 0 ≡ 0
+unfolding offset
+none-first s = omega arith
+
+pub found : (s n p : ℕ) → p < offset s n → Found s n p
+found s zero p h = absurd (omega (arith, none-first s))
+found s (suc n) p h = go (decLt p (offset s n)) (found s n p)
+  where
+    go : Dec (p < offset s n) → (p < offset s n → Found s n p) → Found s (suc n) p
+    go (yes g) ih = let f = ih g in record { ring = f .ring; few = omega (arith, f .few); inside = f .inside }
+    go (no g) ih = record { ring = n; few = le-refl (suc n); inside = record { low = omega (arith, g); high = h } }
+
+pub at-slot : (s x n i : ℕ) → slotIn s x n ≡ place i → (0 < x) × (i ≡ offset s x + n)
 at-slot s zero n i e = let z : _≡_ {A = ℕ} 0 1 = cc in omega arith
 at-slot s (suc x) n i e = (zero-lt-suc x, cc)
 
--- it lies in its own ring
-pub at-lt : (s x n i : ℕ) → 0 < s → slotIn s x n ≡ place i → i < offset s x + s * x
-at-lt s x n i hs e =
-    let a = at-slot s x n i e in
-    omega (arith, mod-lt n (mul-pos hs (a .0)))
-
--- and in the store
-pub at-in : (s x b n i : ℕ) → 0 < s → x < b → slotIn s x n ≡ place i → i < offset s b
-at-in s x b n i hs h e = omega (arith, at-lt s x n i hs e, offset-end s x b h)
+pub slot-at : (s x n : ℕ) → 0 < x → slotIn s x n ≡ place (offset s x + n)
+slot-at s zero n h = absurd (not-suc-le-zero h)
+slot-at s (suc x) n h = refl
 
 -- ---- two numbers with one remainder are a whole divisor apart
 
@@ -66,16 +107,6 @@ rows-lt m p q h e = lt-of-mul-lt-mul-right m (omega (arith, div-add-mod' p m, di
 pub gap : (m p q : ℕ) → p < q → q % m ≡ p % m → p + m ≤ q
 gap m p q h e =
     omega (arith, div-add-mod' p m, div-add-mod' q m, suc-mul (p / m) m, mul-le-mul-right m (rows-lt m p q h e))
-
--- ---- the slot of a byte
-
-pub slot-at : (s x n : ℕ) → 0 < x → slotIn s x n ≡ place (offset s x + n % (s * x))
-slot-at s zero n h = absurd (not-suc-le-zero h)
-slot-at s (suc x) n h = refl
-
-pub slotAt-in : (way : Way) (b s t i : ℕ) → 0 < s → 0 < b → slotAt way b s t ≡ place i → i < offset s b
-unfolding slotAt
-slotAt-in way b s t i hs hb e = at-in s (ringOf way b (t % b)) b (t / b) i hs (ring-lt way b (t % b) (mod-lt t hb)) e
 
 -- ---- what a byte does to the store
 
