@@ -1,75 +1,89 @@
--- What a start and a feed say: the lines that refuse them, in the order of the checks, and the answers in the paper's numbers and values.
--- Rests on the pattern of every call.
+-- What a start and a feed say, and what they leave: the lines that refuse them, in the order of the checks, and the answers in the paper's numbers
+-- and values. Over bytes of any type. Rests on the pattern of every call.
 use Prim.Native.Nat.{ℕ}
 use mathlib.Core.Bool.{not}
 use mathlib.Core.List.{List, [], _∷_}
-use mathlib.Core.Path.{_≡_, refl}
+use mathlib.Core.Path.{_≡_, refl, ap₂}
 use lib.ListN.{length}
-use lib.Dec.{eqb, leb}
+use lib.Dec.{eqb}
 use Rattle.laws.specs.declared.Way.{Way}
 use Rattle.laws.specs.Outcome.{Outcome, done, refused, apart, Line, line, judged, after}
-use Rattle.streams.specs.declared.Stream.{Stream}
-use Rattle.streams.specs.declared.Started.{Started}
-use Rattle.streams.specs.declared.Started.the-variants as started
-use Rattle.streams.specs.declared.Fed.{Fed}
-use Rattle.streams.specs.declared.Fed.the-variants as fed
-use Rattle.streams.specs.Dvb.{startRecord, startStore, fedOutput, fedStore, fedRecord}
+use Rattle.kinds.specs.declared.Stream.{Stream}
+use Rattle.kinds.specs.Kinds.{known, sizesOf, inRange, startRecord}
+use Rattle.streams.specs.declared.Said.{Said}
+use Rattle.streams.specs.declared.Said.the-variants.{Done, Refused}
+use Rattle.streams.specs.declared.Answer.{Answer}
+use Rattle.streams.specs.Fed.{startStore, fedOutput, fedStore, fedRecord}
+
+-- an answer's record, or its number
+abbrev pub sayBy : Said → Stream → Outcome ℕ Stream
+sayBy Done s = done s
+sayBy (Refused k) s = refused k
+
+abbrev pub say : Answer → Outcome ℕ Stream
+say r = sayBy (r .said) (r .stream)
+
+-- two answers that say the same and hand over the same record are the same
+pub answer-apart : (a b : Answer) → say a ≡ say b → a .stream ≡ b .stream → a ≡ b
+answer-apart a b e q = apart (λ r. (say r, r .stream)) read (λ r. same (r .said) (r .stream)) a b (ap₂ (λ (o : Outcome ℕ Stream) (s : Stream). (o, s)) e q)
+  where
+    read : Outcome ℕ Stream × Stream → Answer
+    read (done s, r) = record { said = Done; stream = r }
+    read (refused k, r) = record { said = Refused k; stream = r }
+
+    same : (x : Said) (s : Stream) → read (sayBy x s, s) ≡ record { said = x; stream = s }
+    same Done s = refl
+    same (Refused k) s = refl
+
+-- ---- a start
 
 module _ {A : Type 0} where
-  -- 7: the store isn't 1,122 bytes
-  abbrev pub startLines : List A → List Line
-  startLines store = line 7 (not (eqb (length store) 1122)) ∷ []
+  -- 9: the kind is unknown; 7: the store isn't the kind's
+  abbrev pub startLines : ℕ → List A → List Line
+  startLines k store = line 9 (not (known k)) ∷ line 7 (not (eqb (length store) (sizesOf k .store))) ∷ []
 
-  -- 7 again; 9: the phase is 5,654,880 or more; 6: the output's length isn't the input's
-  abbrev pub feedLines : Stream → List A → List A → List A → List Line
-  feedLines s store input out =
-      line 7 (not (eqb (length store) 1122)) ∷ line 9 (leb 5654880 (s .phase)) ∷ line 6 (not (eqb (length out) (length input))) ∷ []
+  -- what it has to say; the record it gives, zeros throughout where it is refused; the store after it
+  abbrev pub startedOf : ℕ → List A → Outcome ℕ Stream
+  startedOf k store = judged (λ n. n) (startLines k store) (startRecord k)
 
-  -- what a start has to say, and the store after it
-  abbrev pub startedOf : List A → Outcome ℕ Stream
-  startedOf store = judged (λ k. k) (startLines store) startRecord
+  abbrev pub startedRecord : ℕ → List A → Stream
+  startedRecord k store = after (startLines k store) (startRecord k) (startRecord 0)
 
-  abbrev pub startedStore : A → List A → List A
-  startedStore f store = after (startLines store) (startStore f) store
+  abbrev pub startedStore : ℕ → A → List A → List A
+  startedStore k f store = after (startLines k store) (startStore k f) store
 
-  -- what a feed has to say, and the store and the output after it
-  abbrev pub fedOf : Stream → List A → List A → List A → Outcome ℕ Stream
-  fedOf s store input out = judged (λ k. k) (feedLines s store input out) (fedRecord s input)
+-- ---- a feed
 
-  abbrev pub storeOf : Way → Stream → List A → List A → List A → List A
-  storeOf way s store input out = after (feedLines s store input out) (fedStore way s store input) store
+-- a call: which machine, its record, its store, its input and its output
+pub record Call (A : Type 0) : Type 0 where
+  pub way : Way
+  pub stream : Stream
+  pub store : List A
+  pub input : List A
+  pub output : List A
 
-  abbrev pub outputOf : Way → Stream → List A → List A → List A → List A
-  outputOf way s store input out = after (feedLines s store input out) (fedOutput way s store input) out
+module _ {A : Type 0} where
+  abbrev pub call : Way → Stream → List A → List A → List A → Call A
+  call way s store input out = record { way = way; stream = s; store = store; input = input; output = out }
 
--- the answers, by cases
-abbrev pub sayStarted : Started → Outcome ℕ Stream
-sayStarted (started.Ready s) = done s
-sayStarted (started.Refused k) = refused k
+  -- 9: the kind is unknown; 7: the store isn't the kind's; 9: the branch or a place is out of its range; 6: the output's length isn't the input's
+  abbrev pub linesOf : Call A → List Line
+  linesOf c =
+      line 9 (not (known (c .stream .kind)))
+      ∷ line 7 (not (eqb (length (c .store)) (sizesOf (c .stream .kind) .store)))
+      ∷ line 9 (not (inRange (c .stream)))
+      ∷ line 6 (not (eqb (length (c .output)) (length (c .input))))
+      ∷ []
 
-abbrev pub sayFed : Fed → Outcome ℕ Stream
-sayFed (fed.Next s) = done s
-sayFed (fed.Refused k) = refused k
+  -- what it says; the record it hands over, its own where it is refused; and what it leaves of its store and its output
+  abbrev pub says : Call A → Outcome ℕ Stream
+  says c = judged (λ k. k) (linesOf c) (fedRecord (c .way) (c .stream) (c .input))
 
--- two answers that say the same are the same
-pub started-apart : (a b : Started) → sayStarted a ≡ sayStarted b → a ≡ b
-started-apart = apart sayStarted read same
-  where
-    read : Outcome ℕ Stream → Started
-    read (done s) = started.Ready s
-    read (refused k) = started.Refused k
+  abbrev pub recordAfter : Call A → Stream
+  recordAfter c = after (linesOf c) (fedRecord (c .way) (c .stream) (c .input)) (c .stream)
 
-    same : (a : Started) → read (sayStarted a) ≡ a
-    same (started.Ready s) = refl
-    same (started.Refused k) = refl
+  abbrev pub storeAfter : Call A → List A
+  storeAfter c = after (linesOf c) (fedStore (c .way) (c .stream) (c .store) (c .input)) (c .store)
 
-pub fed-apart : (a b : Fed) → sayFed a ≡ sayFed b → a ≡ b
-fed-apart = apart sayFed read same
-  where
-    read : Outcome ℕ Stream → Fed
-    read (done s) = fed.Next s
-    read (refused k) = fed.Refused k
-
-    same : (a : Fed) → read (sayFed a) ≡ a
-    same (fed.Next s) = refl
-    same (fed.Refused k) = refl
+  abbrev pub outputAfter : Call A → List A
+  outputAfter c = after (linesOf c) (fedOutput (c .way) (c .stream) (c .store) (c .input)) (c .output)

@@ -1,71 +1,84 @@
--- How far a burst in the DVB channel is spread: where its bytes come out of a started deinterleaver, whatever the calls, and how far apart. Over
--- bytes of any type.
-use Prim.Native.Nat.{ℕ, _≤_, _<_}
-use mathlib.Core.Path.{_≡_, _∙_}
+-- How far a burst in the channel is spread: where its bytes come out of a started deinterleaver, whatever the calls, and how far apart. For both kinds
+-- at once, and over bytes of any type.
+use Prim.Native.Nat.{ℕ, _+_, _%_, _≤_, _<_}
+use mathlib.Core.Path.{_≡_, refl, _∙_}
 use mathlib.Core.Logic.{_≢_}
 use mathlib.Core.List.{List, map}
 use lib.ListN.{length, getD, replicate, length-replicate}
-use lib.Dec.{lit<}
 use Rattle.laws.specs.declared.Way.the-variants.{Deinterleaver}
-use Rattle.delay.specs.Machine.{comesAt, spreadOf}
+use Rattle.delay.specs.Machine.{startStand, slotOf, nextOf, spreadOf}
 use Rattle.delay.specs.Burst.{distance, Only}
 use Rattle.delay.specs.Burst as burst
 use Rattle.delay.specs.Numbered.{pair, numbered, byteOf}
 use Rattle.delay.specs.Numbered as numbers
-use Rattle.streams.specs.declared.Stream.{Stream}
-use Rattle.streams.specs.Dvb.{slotOf, nextOf, startRecord, startStore, fedOutput}
+use Rattle.kinds.specs.declared.Stream.{Stream}
+use Rattle.kinds.specs.Kinds.{sizesOf, sound, machineOf, startRecord, placeIn}
+use Rattle.streams.specs.Fed.{startStore, fedOutput}
 use Rattle.streams.specs.Calls.{Fresh, Calls}
-use Rattle.streams.specs.Condition3.{one-run, served-start, at-once, begun, counted}
+use Rattle.streams.specs.Condition3.{one-run, begun, counted}
+use Rattle.streams.specs.Ready.{served-start, kind-known, ready-start, at-once}
 
-just-started : {A : Type 0} (f : A) → Fresh f startRecord (startStore f)
-unfolding startStore
-just-started f = served-start (replicate 1122 f) f (length-replicate 1122 f)
-
--- what comes out of a started deinterleaver that is fed each byte with its number
-unfoldable pub traced : {A : Type 0} → A → List A → List (ℕ × A)
-traced f xs = fedOutput Deinterleaver startRecord (startStore (0, f)) (numbered f xs)
+-- what comes out of a started deinterleaver of kind k that is fed each byte with its number
+unfoldable pub traced : {A : Type 0} → ℕ → A → List A → List (ℕ × A)
+traced k f xs = fedOutput Deinterleaver (startRecord k) (startStore k (0, f)) (numbered f xs)
 
 -- any calls on a started deinterleaver that are fed these give that
-pub traced-is : {A : Type 0} (f : A) (xs : List A) {s s′ : Stream} {store zs store′ : List (ℕ × A)}
-    → Fresh (0, f) s store → Calls Deinterleaver s store (numbered f xs) zs s′ store′ → zs ≡ traced f xs
+pub traced-is : {A : Type 0} {k : ℕ} (f : A) (xs : List A) {s s′ : Stream} {store zs store′ : List (ℕ × A)}
+    → Fresh k (0, f) s store → Calls Deinterleaver s store (numbered f xs) zs s′ store′ → zs ≡ traced k f xs
 unfolding traced
 traced-is f xs h calls = let b = begun h in one-run calls .output ∙ rw (b .0, b .1)
 
--- in it byte a stands at its place and nowhere else
-alone : {A : Type 0} (f : A) (xs : List A) (a : ℕ) → comesAt 12 17 a < length xs → Only (0, f) (traced f xs) (comesAt 12 17 a) (pair f xs a)
-unfolding traced
-alone {A} f xs a l =
-    let fill : ℕ × A = (0, f) in
-    rw (counted (just-started fill) (at-once Deinterleaver fill (numbered f xs))) (numbers.stands-alone f 12 17 (lit< tt) (lit< tt) xs a l)
+at-first : startStand 51 .branch ≡ 0
+unfolding startStand
+at-first = refl
 
-module _ {A : Type 0} {f : A} {s s′ : Stream} {store xs ys store′ : List A} (h : Fresh f s store) (calls : Calls Deinterleaver s store xs ys s′ store′) where
+module _ {A : Type 0} {k : ℕ} {f : A} {s s′ : Stream} {store xs ys store′ : List A} (h : Fresh k f s store) (calls : Calls Deinterleaver s store xs ys s′ store′) where
+  -- a machine of this kind may be started with pairs, too
+  with-numbers : Fresh {A = ℕ × A} k (0, f) (startRecord k) (startStore k (0, f))
+  with-numbers = served-start k (replicate (sizesOf k .store) (0, f)) (0, f) (kind-known h) (length-replicate (sizesOf k .store) (0, f))
+
+  -- in what comes out of it byte a stands at its place and nowhere else
+  alone : (a : ℕ) → placeIn k a < length xs → Only (0, f) (traced k f xs) (placeIn k a) (pair f xs a)
+  unfolding traced
+  alone a l =
+      let z = sound k in
+      rw (counted with-numbers (at-once (ready-start k (0, f) (kind-known h)) Deinterleaver (numbered f xs)))
+      (numbers.stands-alone f (sizesOf k .branches) (sizesOf k .step) (z .some-branches) (z .some-step) (startStand 51) at-first xs a l)
+
   -- of any calls: at byte a's place stands its value, if more bytes than that were fed
-  pub comes-out : (a : ℕ) → comesAt 12 17 a < length xs → getD ys (comesAt 12 17 a) f ≡ getD xs a f
-  comes-out a l = rw (counted h calls) (burst.comes-out 12 17 (lit< tt) (lit< tt) f xs a l)
+  pub comes-out : (a : ℕ) → placeIn k a < length xs → getD ys (placeIn k a) f ≡ getD xs a f
+  comes-out a l =
+      let z = sound k in
+      rw (counted h calls) (burst.comes-out (sizesOf k .branches) (sizesOf k .step) (z .some-branches) (z .some-step) (startStand 51) at-first f xs a l)
 
   -- what comes out is what comes out of the numbered bytes, without their numbers
-  bytes : ys ≡ map (byteOf f) (traced f xs)
-  unfolding traced fedOutput startStore
+  bytes : ys ≡ map (byteOf f) (traced k f xs)
+  unfolding traced fedOutput startRecord startStore
   bytes =
       let b = begun h in
-      one-run calls .output ∙ rw (b .0, b .1) (numbers.bytes-same f (slotOf Deinterleaver) nextOf startRecord 1122 xs)
+      let M = machineOf Deinterleaver k in
+      one-run calls .output ∙ rw (b .0, b .1) (numbers.bytes-same f (slotOf M) (nextOf M) (startStand 51) (sizesOf k .store) xs)
 
   -- and there byte a itself stands at its place, and nowhere else
-  pub stands-alone : (a : ℕ) → comesAt 12 17 a < length xs → (ys ≡ map (byteOf f) (traced f xs)) × Only (0, f) (traced f xs) (comesAt 12 17 a) (pair f xs a)
-  stands-alone a l = (bytes, alone f xs a l)
+  pub stands-alone : (a : ℕ) → placeIn k a < length xs → (ys ≡ map (byteOf f) (traced k f xs)) × Only (0, f) (traced k f xs) (placeIn k a) (pair f xs a)
+  stands-alone a l = (bytes, alone a l)
 
-  -- two different bytes less than 12 apart stand so far apart at least ..
-  pub burst-spread : (a c : ℕ) → a ≢ c → distance a c < 12 → comesAt 12 17 a < length xs → comesAt 12 17 c < length xs
-      → (ys ≡ map (byteOf f) (traced f xs))
-      × Only (0, f) (traced f xs) (comesAt 12 17 a) (pair f xs a)
-      × Only (0, f) (traced f xs) (comesAt 12 17 c) (pair f xs c)
-      × (spreadOf 12 17 ≤ distance (comesAt 12 17 a) (comesAt 12 17 c))
-  burst-spread a c other near la lc = (bytes, alone f xs a la, alone f xs c lc, burst.spread 12 17 (lit< tt) (lit< tt) a c other near)
+  -- two different bytes fewer places apart than there are branches stand so far apart at least ..
+  pub burst-spread : (a c : ℕ) → a ≢ c → distance a c < sizesOf k .branches → placeIn k a < length xs → placeIn k c < length xs
+      → (ys ≡ map (byteOf f) (traced k f xs))
+      × Only (0, f) (traced k f xs) (placeIn k a) (pair f xs a)
+      × Only (0, f) (traced k f xs) (placeIn k c) (pair f xs c)
+      × (spreadOf (sizesOf k .branches) (sizesOf k .step) ≤ distance (placeIn k a) (placeIn k c))
+  burst-spread a c other near la lc =
+      let z = sound k in
+      (bytes, alone a la, alone c lc, burst.spread (sizesOf k .branches) (sizesOf k .step) (z .some-branches) (z .some-step) a c other near)
 
-  -- .. and bytes 0 and 1 just so far
-  pub burst-spread-reached : comesAt 12 17 0 < length xs → comesAt 12 17 1 < length xs
-      → (ys ≡ map (byteOf f) (traced f xs))
-      × Only (0, f) (traced f xs) (comesAt 12 17 0) (pair f xs 0)
-      × Only (0, f) (traced f xs) (comesAt 12 17 1) (pair f xs 1)
-      × (distance (comesAt 12 17 0) (comesAt 12 17 1) ≡ spreadOf 12 17)
-  burst-spread-reached l₀ l₁ = (bytes, alone f xs 0 l₀, alone f xs 1 l₁, burst.reached 12 17 (lit< tt) (lit< tt) 0 (lit< tt))
+  -- .. and each two neighbours of one turn just so far
+  pub burst-spread-reached : (a : ℕ) → a % sizesOf k .branches + 1 < sizesOf k .branches → placeIn k a < length xs → placeIn k (a + 1) < length xs
+      → (ys ≡ map (byteOf f) (traced k f xs))
+      × Only (0, f) (traced k f xs) (placeIn k a) (pair f xs a)
+      × Only (0, f) (traced k f xs) (placeIn k (a + 1)) (pair f xs (a + 1))
+      × (distance (placeIn k a) (placeIn k (a + 1)) ≡ spreadOf (sizesOf k .branches) (sizesOf k .step))
+  burst-spread-reached a turn l₀ l₁ =
+      let z = sound k in
+      (bytes, alone a l₀, alone (a + 1) l₁, burst.reached (sizesOf k .branches) (sizesOf k .step) (z .some-branches) (z .some-step) a turn)

@@ -1,9 +1,10 @@
-pub mod Dvb
+pub mod Fed
 pub mod Answers
-pub mod Phase
-pub mod Feeding
 pub mod Calls
+pub mod Feeding
+pub mod Telling
 pub mod Condition3
+pub mod Ready
 pub mod Burst
 pub mod Blind
 pub mod Refusals

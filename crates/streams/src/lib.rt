@@ -1,178 +1,152 @@
-// The DVB byte interleaver and deinterleaver: a record by value, a lent store. A call is refused with a number, and then it touches
+// The byte interleavers and deinterleavers of DVB and ATSC: a record by value, a lent store. A call is refused with a number, and then it touches
 // nothing, or it is done.
+use kinds::Stream;
+use kinds::sizes::Sizes;
 use laws::Way;
 ghost use mathlib.Core.Path.{_≡_};
-ghost use Prim.Native.Nat.{_+_, _*_, _/_, _%_, _<_};
-ghost use lib.ListN.{length};
+ghost use mathlib.Core.Bool.{true};
+ghost use lib.ListN.{length, replicate};
 ghost use Rattle.laws.specs.declared.Way.the-variants.{Interleaver, Deinterleaver};
-ghost use Rattle.delay.specs.Machine.{ringOf};
-ghost use Rattle.delay.specs.Lane.{Leads};
-ghost use Rattle.streams.specs.Dvb.{startRecord, startStore, Runs};
-ghost use Rattle.streams.specs.Answers.{sayStarted, sayFed, startedOf, startedStore, fedOf, storeOf, outputOf};
+ghost use Rattle.kinds.specs.Kinds.{sizesOf, inRange};
+ghost use Rattle.streams.specs.declared.Said.the-variants.{Refused};
+ghost use Rattle.streams.specs.Fed.{Runs};
+ghost use Rattle.streams.specs.Answers.{say, startedOf, startedRecord, startedStore, call, says, recordAfter, storeAfter, outputAfter};
 
-// The record: the phase, t modulo PHASES, where byte t of the stream is the next.
-pub struct Stream {
-    pub phase: u32,
-}
-
-// What a start answers.
-pub enum Started {
-    Ready(Stream),
+// What a start or a feed says: it is done, or refused with a number.
+pub enum Said {
+    Done,
     Refused(u32),
 }
 
-// What a feed answers.
-pub enum Fed {
-    Next(Stream),
-    Refused(u32),
+// What it answers. A feed that is done hands the next record on, and one that is refused its own as it came; a start that is refused gives zeros.
+pub struct Answer {
+    pub said: Said,
+    pub stream: Stream,
 }
 
-impl Stream {
-    pub const BRANCHES: usize = 12;
-
-    pub const STEP: usize = 17;
-
-    pub const STORE: usize = 1122;
-
-    pub const PHASES: usize = 5654880;
-
-    // The record of a machine that is just started.
-    pub fn new() -> Self
-        ensures { λ r. ⌜ r ≡ startRecord ⌝ }
-    {
-        Stream { phase: 0 }
-    }
-
-    // The ring of branch j, and the branch of ring j: the queue of STEP * j bytes, or counted from the other end.
-    fn ring(way: Way, j: usize) -> usize
-        requires { ⌜ j < 12 ⌝ }
-        ensures { λ r. ⌜ (r ≡ ringOf way 12 j) × (r < 12) ⌝ }
-    {
-        match way {
-            Way::Interleaver => j,
-            Way::Deinterleaver => Self::BRANCHES - 1 - j,
-        }
-    }
-
-    // The branch of the next byte.
-    fn branch(self) -> usize
-        ensures { λ r. ⌜ (r ≡ self .phase % 12) × (r < 12) ⌝ }
-    {
-        self.phase as usize % Self::BRANCHES
-    }
-
-    // How many bytes come before the first of ring x.
-    fn lead(self, way: Way, x: usize) -> usize
-        requires { ⌜ x < 12 ⌝ }
-        ensures { λ r. ⌜ Leads way 12 (self .phase) x r ⌝ }
-    {
-        let j = Self::ring(way, x);
-        let m = self.branch();
-        if j < m { j + Self::BRANCHES - m } else { j - m }
-    }
-
-    // The slot, in the ring of STEP * x bytes, of the byte that comes k bytes on.
-    fn slot(self, x: usize, k: usize) -> usize
-        requires { ⌜ (0 < x) × (x < 12) × (k < 12) ⌝ }
-        ensures { λ r. ⌜ (r ≡ (self .phase + k) / 12 % (17 * x)) × (r < 17 * x) ⌝ }
-    {
-        (self.phase as usize + k) / Self::BRANCHES % (Self::STEP * x)
-    }
-
-    // The record when n bytes have passed.
-    fn moved(self, n: usize) -> Self
-        requires { ⌜ self .phase < 5654880 ⌝ }
-        ensures { λ r. ⌜ r .phase ≡ (self .phase + n) % 5654880 ⌝ }
-    {
-        let t = self.phase as usize + n % Self::PHASES;
-        Stream {
-            phase: (t % Self::PHASES) as u32,
-        }
-    }
-
-    // The bytes of a slice, ring by ring: bytes of different rings never meet, so the order of the rings does not matter.
-    fn run(self, way: Way, store: &mut [u8], input: &[u8], out: &mut [u8]) -> Stream
-        requires { ⌜ (length (now store) ≡ 1122) × (self .phase < 5654880) × (length (now out) ≡ length (now input)) ⌝ }
-        ensures { λ r. ⌜ Runs way self (now (store .entry)) (now (input .entry)) r (now (store .exit)) (now (out .exit)) ⌝ }
-    {
-        let none = self.lead(way, 0);
-        rings::pass(Self::BRANCHES, none, input, out);
-        let mut first = 0;
-        let mut x = 1;
-        while x < Self::BRANCHES {
-            let last = first + Self::STEP * x;
-            let i = self.lead(way, x);
-            let place = first + self.slot(x, i);
-            rings::turn(Self::BRANCHES, first, last, i, place, store, input, out);
-            first = last;
-            x += 1;
-        }
-        self.moved(input.len())
-    }
-
-    // Feeds a machine, of either way. Refusals 7, 9, 6.
-    pub fn feed(self, way: Way, store: &mut [u8], input: &[u8], out: &mut [u8]) -> Fed
-        ensures answer { λ r. ⌜ sayFed r ≡ fedOf self (now (store .entry)) (now (input .entry)) (now (out .entry)) ⌝ }
-        ensures store { λ r. ⌜ now (store .exit)
-            ≡ storeOf way self (now (store .entry)) (now (input .entry)) (now (out .entry)) ⌝ }
-        ensures output { λ r. ⌜ now (out .exit)
-            ≡ outputOf way self (now (store .entry)) (now (input .entry)) (now (out .entry)) ⌝ }
-    {
-        if store.len() != Self::STORE {
-            return Fed::Refused(7);
-        }
-        if self.phase as usize >= Self::PHASES {
-            return Fed::Refused(9);
-        }
-        if out.len() != input.len() {
-            return Fed::Refused(6);
-        }
-        Fed::Next(self.run(way, store, input, out))
+// A refusal, with the record that goes with it.
+fn refusal(k: u32, stream: Stream) -> Answer
+    ensures { λ r. ⌜ r ≡ record { said = Refused k; stream = stream } ⌝ }
+{
+    Answer {
+        said: Said::Refused(k),
+        stream,
     }
 }
 
-// Fills the store of a machine with f.
+// The bytes of a slice, ring by ring: bytes of different rings never meet, so the order of the rings does not matter. One division tells how many
+// whole turns there are, and so how many bytes each ring has.
+fn run(way: Way, s: Stream, store: &mut [u8], input: &[u8], out: &mut [u8]) -> Stream
+    requires { ⌜ (length (now store) ≡ sizesOf (s .kind) .store) × (inRange s ≡ true) × (length (now out) ≡ length (now input)) ⌝ }
+    ensures { λ r. ⌜ Runs way s (now (store .entry)) (now (input .entry)) r (now (store .exit)) (now (out .exit)) ⌝ }
+{
+    let z = Sizes::of(s.kind);
+    let turns = input.len() / z.branches;
+    let rest = input.len() % z.branches;
+    let none = s.lead(way, 0);
+    rings::pass(z.branches, none, input, out);
+    let mut places = s.places;
+    let mut first = 0;
+    let mut size = z.step;
+    let mut x = 1;
+    while x < z.branches {
+        let last = first + size;
+        let i = s.lead(way, x);
+        let left = rings::left_of(turns, rest, i);
+        let place = first + places[x - 1] as usize;
+        let next = rings::turn(z.branches, first, last, i, place, left, store, input, out);
+        places[x - 1] = (next - first) as u32;
+        first = last;
+        size += z.step;
+        x += 1;
+    }
+    Stream {
+        kind: s.kind,
+        branch: s.moved(rest),
+        places,
+    }
+}
+
+// Feeds a machine, of either way. Refusals 9, 7, 9, 6.
+pub fn feed(way: Way, s: Stream, store: &mut [u8], input: &[u8], out: &mut [u8]) -> Answer
+    ensures answer { λ r. ⌜ say r ≡ says (call way s (now (store .entry)) (now (input .entry)) (now (out .entry))) ⌝ }
+    ensures stream { λ r. ⌜ r .stream ≡ recordAfter (call way s (now (store .entry)) (now (input .entry)) (now (out .entry))) ⌝ }
+    ensures store { λ r. ⌜ now (store .exit)
+        ≡ storeAfter (call way s (now (store .entry)) (now (input .entry)) (now (out .entry))) ⌝ }
+    ensures output { λ r. ⌜ now (out .exit)
+        ≡ outputAfter (call way s (now (store .entry)) (now (input .entry)) (now (out .entry))) ⌝ }
+{
+    if !Sizes::known(s.kind) {
+        return refusal(9, s);
+    }
+    if store.len() != Sizes::of(s.kind).store {
+        return refusal(7, s);
+    }
+    if !s.in_range() {
+        return refusal(9, s);
+    }
+    if out.len() != input.len() {
+        return refusal(6, s);
+    }
+    let stream = run(way, s, store, input, out);
+    Answer {
+        said: Said::Done,
+        stream,
+    }
+}
+
+// Fills a store with f.
 fn fill(store: &mut [u8], f: u8)
-    requires { ⌜ length (now store) ≡ 1122 ⌝ }
-    ensures { λ _. ⌜ now (store .exit) ≡ startStore f ⌝ }
+    ensures { λ _. ⌜ now (store .exit) ≡ replicate (length (now (store .entry))) f ⌝ }
 {
     let mut i = 0;
-    while i < Stream::STORE {
+    while i < store.len() {
         store[i] = f;
         i += 1;
     }
 }
 
-// Starts a machine, of either way, in a lent store.
-pub fn start(store: &mut [u8], f: u8) -> Started
-    ensures answer { λ r. ⌜ sayStarted r ≡ startedOf (now (store .entry)) ⌝ }
-    ensures store { λ r. ⌜ now (store .exit) ≡ startedStore f (now (store .entry)) ⌝ }
+// Starts a machine of a kind, of either way, in a lent store. Refusals 9, 7.
+pub fn start(kind: u32, store: &mut [u8], f: u8) -> Answer
+    ensures answer { λ r. ⌜ say r ≡ startedOf kind (now (store .entry)) ⌝ }
+    ensures stream { λ r. ⌜ r .stream ≡ startedRecord kind (now (store .entry)) ⌝ }
+    ensures store { λ r. ⌜ now (store .exit) ≡ startedStore kind f (now (store .entry)) ⌝ }
 {
-    if store.len() != Stream::STORE {
-        return Started::Refused(7);
+    if !Sizes::known(kind) {
+        return refusal(9, Stream::new(0));
+    }
+    if store.len() != Sizes::of(kind).store {
+        return refusal(7, Stream::new(0));
     }
     fill(store, f);
-    Started::Ready(Stream::new())
+    Answer {
+        said: Said::Done,
+        stream: Stream::new(kind),
+    }
 }
 
 // Feeds the interleaver.
-pub fn interleave(s: Stream, store: &mut [u8], input: &[u8], out: &mut [u8]) -> Fed
-    ensures answer { λ r. ⌜ sayFed r ≡ fedOf s (now (store .entry)) (now (input .entry)) (now (out .entry)) ⌝ }
+pub fn interleave(s: Stream, store: &mut [u8], input: &[u8], out: &mut [u8]) -> Answer
+    ensures answer { λ r. ⌜ say r ≡ says (call Interleaver s (now (store .entry)) (now (input .entry)) (now (out .entry))) ⌝ }
+    ensures stream { λ r. ⌜ r .stream
+        ≡ recordAfter (call Interleaver s (now (store .entry)) (now (input .entry)) (now (out .entry))) ⌝ }
     ensures store { λ r. ⌜ now (store .exit)
-        ≡ storeOf Interleaver s (now (store .entry)) (now (input .entry)) (now (out .entry)) ⌝ }
+        ≡ storeAfter (call Interleaver s (now (store .entry)) (now (input .entry)) (now (out .entry))) ⌝ }
     ensures output { λ r. ⌜ now (out .exit)
-        ≡ outputOf Interleaver s (now (store .entry)) (now (input .entry)) (now (out .entry)) ⌝ }
+        ≡ outputAfter (call Interleaver s (now (store .entry)) (now (input .entry)) (now (out .entry))) ⌝ }
 {
-    s.feed(Way::Interleaver, store, input, out)
+    feed(Way::Interleaver, s, store, input, out)
 }
 
 // Feeds the deinterleaver.
-pub fn deinterleave(s: Stream, store: &mut [u8], input: &[u8], out: &mut [u8]) -> Fed
-    ensures answer { λ r. ⌜ sayFed r ≡ fedOf s (now (store .entry)) (now (input .entry)) (now (out .entry)) ⌝ }
+pub fn deinterleave(s: Stream, store: &mut [u8], input: &[u8], out: &mut [u8]) -> Answer
+    ensures answer { λ r. ⌜ say r ≡ says (call Deinterleaver s (now (store .entry)) (now (input .entry)) (now (out .entry))) ⌝ }
+    ensures stream { λ r. ⌜ r .stream
+        ≡ recordAfter (call Deinterleaver s (now (store .entry)) (now (input .entry)) (now (out .entry))) ⌝ }
     ensures store { λ r. ⌜ now (store .exit)
-        ≡ storeOf Deinterleaver s (now (store .entry)) (now (input .entry)) (now (out .entry)) ⌝ }
+        ≡ storeAfter (call Deinterleaver s (now (store .entry)) (now (input .entry)) (now (out .entry))) ⌝ }
     ensures output { λ r. ⌜ now (out .exit)
-        ≡ outputOf Deinterleaver s (now (store .entry)) (now (input .entry)) (now (out .entry)) ⌝ }
+        ≡ outputAfter (call Deinterleaver s (now (store .entry)) (now (input .entry)) (now (out .entry))) ⌝ }
 {
-    s.feed(Way::Deinterleaver, store, input, out)
+    feed(Way::Deinterleaver, s, store, input, out)
 }

@@ -1,69 +1,58 @@
--- The invariant: since the stretch began, the bytes below i are moved, and place is where byte i goes.
-use mathlib.Core.Path.{refl}
-use Prim.Native.Nat.{_-_}
+-- The same loop, called with the number itself.
 use native.Mathlib.Omega.{arith}
-use Rattle.delay.specs.Loops.{Stretching, byte-left, stretching-none, stretching-more, stretching-all}
 use borrow.Author.Needs.{needs}
 use Rattle.rings.proofs.stretch.Statement.{statement}
 use Rattle.rings.proofs.stretch.Tie as tie
 
-abbrev Inv-loop : tie.InvT-loop
-Inv-loop branches from at stop store₀ input out₀ i₀ place₀ store out i place = Stretching branches input store₀ out₀ i₀ place₀ stop store out i place
+moves-requires : tie.Need-moves-requires
+moves-requires c κs = let pre = c .before .before .before .before .before .before .pre in (omega arith, pre .1, rw (c .before .before .match .keys1) at (pre .2), pre .3)
 
-abbrev μ-loop : tie.MeasureT-loop
-μ-loop branches from at stop store₀ input out₀ i₀ place₀ store out i place = stop - place
+moves-requires-2 : tie.Need-moves-requires-2
+moves-requires-2 c κs = let pre = c .before .before .before .before .before .before .pre in (omega arith, pre .1, rw (c .before .before .match .keys2) at (pre .2), pre .3)
 
-loop-holds : tie.Need-loop-holds Inv-loop μ-loop
-loop-holds c = stretching-none (c .pre .1) (c .pre .3) (c .pre .2) (c .pre .4)
+moves-requires-3 : tie.Need-moves-requires-3
+moves-requires-3 c κs = search needs
 
-shared-slice-read-byte : tie.Need-shared-slice-read-byte Inv-loop μ-loop
-shared-slice-read-byte c = byte-left (c .before .before .loop .inv) (omega arith)
+same-length : tie.Need-same-length
+same-length c = search needs
 
-slice-read-out : tie.Need-slice-read-out Inv-loop μ-loop
-slice-read-out c = search needs
-
-slice-write-out : tie.Need-slice-write-out Inv-loop μ-loop
-slice-write-out c = let inv = c .before .before .before .loop .inv in omega (arith, byte-left inv (omega arith), inv .room)
-
-slice-write-store : tie.Need-slice-write-store Inv-loop μ-loop
-slice-write-store c = search needs
-
-add-place : tie.Need-add-place Inv-loop μ-loop
-add-place c = search needs
-
-add-i : tie.Need-add-i Inv-loop μ-loop
-add-i c = omega (arith, byte-left (c .before .before .before .loop .inv) (omega arith), c .before .before .before .before .good .1 .1 .1 .1 .1 .0 .1)
-
-loop-less : tie.Need-loop-less Inv-loop μ-loop
-loop-less c = search needs
-
-loop-again : tie.Need-loop-again Inv-loop μ-loop
-loop-again c = stretching-more (c .before .before .before .loop .inv) (omega arith) refl refl
-
-same-length : tie.Need-same-length Inv-loop μ-loop
-same-length c = c .before .loop .inv .long
-
-same-length-2 : tie.Need-same-length-2 Inv-loop μ-loop
+same-length-2 : tie.Need-same-length-2
 same-length-2 c = search needs
 
-returns : tie.Need-returns Inv-loop μ-loop
-returns c = stretching-all (c .before .loop .inv) (omega arith)
+returns : tie.Need-returns
+returns c = rw (c .before .before .before .before .before .before .before .match .keys1) (c .before .before .before .before .moves .ensures)
+
+same-length-3 : tie.Need-same-length-3
+same-length-3 c = search needs
+
+same-length-4 : tie.Need-same-length-4
+same-length-4 c = search needs
+
+returns-2 : tie.Need-returns-2
+returns-2 c = rw (c .before .before .before .before .before .before .before .match .keys2) (c .before .before .before .before .moves2 .ensures)
+
+same-length-5 : tie.Need-same-length-5
+same-length-5 c = search needs
+
+same-length-6 : tie.Need-same-length-6
+same-length-6 c = search needs
+
+returns-3 : tie.Need-returns-3
+returns-3 c = search needs
 
 pub stretch-spec : {M : Type 1} → statement M
 stretch-spec =
     tie.close
     (tie.spec
-    Inv-loop
-    μ-loop
-    loop-holds
-    shared-slice-read-byte
-    slice-read-out
-    slice-write-out
-    slice-write-store
-    add-place
-    add-i
-    loop-less
-    loop-again
+    moves-requires
+    moves-requires-2
+    moves-requires-3
     same-length
     same-length-2
-    returns)
+    returns
+    same-length-3
+    same-length-4
+    returns-2
+    same-length-5
+    same-length-6
+    returns-3)

@@ -1,20 +1,19 @@
 -- The invariant: the first i bytes are f, the others as they were.
-use Prim.Native.Nat.{ℕ, _≤_, _<_, _-_}
-use mathlib.Core.Path.{_≡_, refl, ap, _∙_}
+use Prim.Native.Nat.{_≤_, _<_, _-_}
+use mathlib.Core.Path.{_≡_, refl, _∙_}
 use mathlib.Core.List.{_++_, append-nil}
 use native.Mathlib.Omega.{arith}
 use lib.ListN.{length, replicate, drop, length-set}
 use lib.Seq.{drop-length}
 use borrow.Author.Fill.{fill-more}
-use Rattle.streams.specs.Dvb.{startStore}
 use Rattle.streams.proofs.fill.Statement.{statement}
 use Rattle.streams.proofs.fill.Tie as tie
 
 abbrev Inv-loop : tie.InvT-loop
-Inv-loop store₀ f i₀ store i = (i ≤ 1122) × (store ≡ replicate i f ++ drop i store₀) × (length store ≡ length store₀)
+Inv-loop store₀ f i₀ store i = (i ≤ length store₀) × (store ≡ replicate i f ++ drop i store₀) × (length store ≡ length store₀)
 
 abbrev μ-loop : tie.MeasureT-loop
-μ-loop store₀ f i₀ store i = 1122 - i
+μ-loop store₀ f i₀ store i = length store₀ - i
 
 loop-holds : tie.Need-loop-holds Inv-loop μ-loop
 loop-holds c = (omega arith, refl, refl)
@@ -38,11 +37,10 @@ same-length : tie.Need-same-length Inv-loop μ-loop
 same-length c = c .before .loop .inv .2
 
 returns : tie.Need-returns Inv-loop μ-loop
-unfolding startStore
 returns c =
     let inv = c .before .loop .inv in
     let e : c .before .loop .i ≡ length (c .before .before .args .store .now) = omega arith in
-    inv .1 ∙ rw (e, drop-length) (append-nil _ ∙ ap (λ (n : ℕ). replicate n (c .before .before .args .f)) (c .before .before .pre))
+    inv .1 ∙ rw (e, drop-length) (append-nil _)
 
 pub fill-spec : {M : Type 1} → statement M
 fill-spec =
