@@ -4,4 +4,4 @@ pub mod lists; // lists.rt: the test of a set, the size that would have fitted, 
 pub mod moves; // moves.rt: whole blocks
 pub mod sums; // sums.rt: receptions added up
 pub mod plan_files; // plan_files.rt: plan files
-pub mod dvb; // dvb.rt: the byte stream
+pub mod machines; // machines.rt: the byte streams

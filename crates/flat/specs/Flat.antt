@@ -1,8 +1,9 @@
 -- An answer, flattened for C: numbers in a row are a parameter set, one number is the answer, and the rest goes through out-parameters. These are
 -- definitions.
-use Prim.Native.Nat.{ℕ, _*_}
+use Prim.Native.Nat.{ℕ, _+_, _*_}
 use mathlib.Core.List.{List, [], _∷_}
 use lib.ListN.{length, getD}
+use Rattle.laws.specs.Run.{run}
 use Rattle.laws.specs.declared.Way.{Way}
 use Rattle.laws.specs.Outcome.{Outcome, done, refused, partOr}
 use Rattle.sets.specs.declared.Factors.{Factors}
@@ -11,7 +12,8 @@ use Rattle.sets.specs.declared.Refusal.{Refusal}
 use Rattle.walks.specs.declared.Walk.{Walk}
 use Rattle.walks.specs.Answer.{Values, walkedOf}
 use Rattle.tables.specs.Answer.{movedOf}
-use Rattle.streams.specs.declared.Stream.{Stream}
+use Rattle.kinds.specs.declared.Stream.{Stream}
+use Rattle.streams.specs.Answers.{Call, call}
 
 -- the parameter set that C lends: profile, bits, n, stream, and the four factors
 unfoldable pub setOf : List ℕ → Set
@@ -31,9 +33,13 @@ factorsList f = f .first ∷ f .second ∷ f .third ∷ f .fourth ∷ []
 unfoldable pub walkOf : List ℕ → ℕ → Walk
 walkOf l c = record { set = setOf l; cell = c }
 
--- a stream's record: the number behind `phase`
-unfoldable pub streamOf : ℕ → Stream
-streamOf p = record { phase = p }
+-- the record of a stream that C lends: kind, branch, and the places ..
+unfoldable pub streamOf : List ℕ → Stream
+streamOf l = record { kind = getD l 0 0; branch = getD l 1 0; places = run (λ i. getD l (i + 2) 0) 0 51 }
+
+-- .. and as C has it
+abbrev pub streamList : Stream → List ℕ
+streamList s = s .kind ∷ s .branch ∷ s .places
 
 -- what the calls that are served have to say, of what C lends: a walk into a slice ..
 abbrev pub lentWalk : Way → List ℕ → ℕ → List ℕ → Outcome Refusal Values
@@ -45,6 +51,10 @@ lentBlock set src dst = movedOf (setOf set) (setOf set .n) (length src) (length 
 
 abbrev pub lentSymbols : {A : Type 0} → List ℕ → ℕ → List A → List A → Outcome Refusal (Unit {0})
 lentSymbols set w src dst = movedOf (setOf set) (setOf set .n * w) (length src) (length dst)
+
+-- .. and a feed
+abbrev pub lentFeed : {A : Type 0} → Way → List ℕ → List A → List A → List A → Call A
+lentFeed way stream store input out = call way (streamOf stream) store input out
 
 -- the number given back: 0 where the call is done, else that of the refusal
 abbrev pub numberBy : {R A : Type 0} → (R → ℕ) → Outcome R A → ℕ
@@ -62,6 +72,6 @@ streamNumberOf = numberBy (λ (k : ℕ). k)
 abbrev pub outOf : {R A B : Type 0} → Outcome R A → (A → B) → B → B
 outOf o part old = partOr o part old
 
--- the number behind `phase`: that of the record
-abbrev pub phaseOut : Outcome ℕ Stream → ℕ → ℕ
-phaseOut o old = outOf o (λ (s : Stream). s .phase) old
+-- the numbers behind `stream`: those of the record
+abbrev pub streamOut : Outcome ℕ Stream → List ℕ → List ℕ
+streamOut o old = outOf o streamList old

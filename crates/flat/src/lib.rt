@@ -1,12 +1,11 @@
 // An answer taken apart for C: what is lent becomes a set or a record, and what is answered becomes a number, 0 where the call is done, and
 // out-parameters, which a refused call leaves as they are.
+pub mod records; // records.rt: the record of a byte stream
+
 use lte::Given;
 use sets::Factors;
 use sets::Set;
 use sets::Verdict;
-use streams::Fed;
-use streams::Started;
-use streams::Stream;
 use tables::Moved;
 use walks::Found;
 use walks::Walk;
@@ -17,8 +16,7 @@ ghost use Rattle.sets.specs.Verdict.{sayVerdict};
 ghost use Rattle.lte.specs.Factors.{sayGiven};
 ghost use Rattle.walks.specs.Answer.{sayWalked, sayFound, Values};
 ghost use Rattle.tables.specs.Answer.{sayMoved};
-ghost use Rattle.streams.specs.Answers.{sayStarted, sayFed};
-ghost use Rattle.flat.specs.Flat.{setOf, walkOf, streamOf, numberOf, streamNumberOf, outOf, phaseOut, factorsList};
+ghost use Rattle.flat.specs.Flat.{setOf, walkOf, numberOf, outOf, factorsList};
 
 // How many numbers a set is.
 pub const SET: usize = 8;
@@ -119,40 +117,5 @@ pub fn told(m: Moved) -> u32
     match m {
         Moved::Done => 0,
         Moved::Refused(x) => x.number,
-    }
-}
-
-// A stream's record, as it is lent.
-pub fn record_of(phase: u32) -> Stream
-    ensures { λ r. ⌜ r ≡ streamOf phase ⌝ }
-{
-    Stream { phase }
-}
-
-// Takes the answer of a start apart.
-pub fn started(s: Started, phase: &mut u32) -> u32
-    ensures number { λ r. ⌜ r ≡ streamNumberOf (sayStarted s) ⌝ }
-    ensures phase { λ r. ⌜ now (phase .exit) ≡ phaseOut (sayStarted s) (now (phase .entry)) ⌝ }
-{
-    match s {
-        Started::Ready(first) => {
-            *phase = first.phase;
-            0
-        }
-        Started::Refused(k) => k,
-    }
-}
-
-// Takes the answer of a feed apart.
-pub fn fed(f: Fed, phase: &mut u32) -> u32
-    ensures number { λ r. ⌜ r ≡ streamNumberOf (sayFed f) ⌝ }
-    ensures phase { λ r. ⌜ now (phase .exit) ≡ phaseOut (sayFed f) (now (phase .entry)) ⌝ }
-{
-    match f {
-        Fed::Next(next) => {
-            *phase = next.phase;
-            0
-        }
-        Fed::Refused(k) => k,
     }
 }

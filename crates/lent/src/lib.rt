@@ -2,4 +2,4 @@
 // a refused call leaves as they are. The calls for C name the way; nothing is decided in either.
 pub mod lists; // lists.rt: one address, a list of addresses
 pub mod moves; // moves.rt: whole blocks
-pub mod dvb; // dvb.rt: the byte stream
+pub mod machines; // machines.rt: the byte streams
