@@ -16,9 +16,9 @@ use Rattle.families.specs.Rules.{ruleIn}
 use Rattle.tables.specs.Answer.{blockLines, movedOf}
 use Rattle.positions.specs.Heard.{Reception, Kept, held}
 use Rattle.combine.specs.Answer.{addLines, addedOf, readLines, readOf, toldOf}
-use Rattle.streams.specs.declared.Stream.{Stream}
-use Rattle.streams.specs.Dvb.{startRecord, fedRecord}
-use Rattle.streams.specs.Answers.{startLines, feedLines, startedOf, fedOf}
+use Rattle.kinds.specs.Kinds.{startRecord}
+use Rattle.streams.specs.Fed.{fedRecord}
+use Rattle.streams.specs.Answers.{startLines, startedOf, Call, linesOf, says}
 
 -- the test of a set; every call on a set makes it first, but for the walk for M's own 1
 pub order-test : (s : Set) → numbers (setLines s) ≡ 1 ∷ 2 ∷ 3 ∷ 16 ∷ 11 ∷ 10 ∷ []
@@ -48,12 +48,12 @@ pub order-read : (s : Set) (h : Kept) (k : ℕ) → numbers (readLines s h k) �
 unfolding readLines setLines
 order-read s h k = refl
 
--- a stream's start and its feeds
-pub order-start : {A : Type 0} (store : List A) → numbers (startLines store) ≡ 7 ∷ []
-order-start store = refl
+-- a stream's start: the kind, the store; and its feeds: the kind, the store, branch and places, the output
+pub order-start : {A : Type 0} (k : ℕ) (store : List A) → numbers (startLines k store) ≡ 9 ∷ 7 ∷ []
+order-start k store = refl
 
-pub order-feed : {A : Type 0} (s : Stream) (store input out : List A) → numbers (feedLines s store input out) ≡ 7 ∷ 9 ∷ 6 ∷ []
-order-feed s store input out = refl
+pub order-feed : {A : Type 0} (c : Call A) → numbers (linesOf c) ≡ 9 ∷ 7 ∷ 9 ∷ 6 ∷ []
+order-feed c = refl
 
 -- LTE's own factors
 pub order-factors : (k : ℕ) → numbers (givenLines k) ≡ 3 ∷ []
@@ -88,10 +88,10 @@ eight-unsaid-factors k = unsaid (refusal (lteSet k)) (λ x. x .number) (refusal-
 
 -- .. or a stream's, whose refusal is the number alone
 pub eight-unsaid-stream : {A : Type 0}
-    → ((store : List A) → startedOf store ≡ refused 8 → ⊥)
-    × ((s : Stream) (store input out : List A) → fedOf s store input out ≡ refused 8 → ⊥)
+    → ((k : ℕ) (store : List A) → startedOf k store ≡ refused 8 → ⊥)
+    × ((c : Call A) → says c ≡ refused 8 → ⊥)
 unfolding among
 eight-unsaid-stream = (
-  λ store q. unsaid (λ k. k) (λ k. k) (λ k. refl) 8 (startLines store) startRecord refl 8 q refl,
-  λ s store input out q. unsaid (λ k. k) (λ k. k) (λ k. refl) 8 (feedLines s store input out) (fedRecord s input) refl 8 q refl,
+  λ k store q. unsaid (λ n. n) (λ n. n) (λ n. refl) 8 (startLines k store) (startRecord k) refl 8 q refl,
+  λ c q. unsaid (λ n. n) (λ n. n) (λ n. refl) 8 (linesOf c) (fedRecord (c .way) (c .stream) (c .input)) refl 8 q refl,
 )

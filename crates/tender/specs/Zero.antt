@@ -18,10 +18,10 @@ use Rattle.walks.specs.declared.Walk.{Walk}
 use Rattle.families.specs.Rules.{ruleIn}
 use Rattle.walks.specs.Answer.{walkLines, oneLines, walkList, walkCells, walkNext, Values, walkValues, walkedOf, foundOf}
 use Rattle.tables.specs.Answer.{blockLines, movedOf}
-use Rattle.streams.specs.declared.Stream.{Stream}
-use Rattle.streams.specs.Answers.{startLines, feedLines, startedOf, fedOf}
-use Rattle.streams.specs.Dvb.{startRecord, fedRecord}
-use Rattle.flat.specs.Flat.{numberBy, numberOf, streamNumberOf, outOf, phaseOut}
+use Rattle.kinds.specs.Kinds.{startRecord}
+use Rattle.streams.specs.Fed.{fedRecord}
+use Rattle.streams.specs.Answers.{startLines, startedOf, Call, linesOf, says}
+use Rattle.flat.specs.Flat.{streamList, numberBy, numberOf, streamNumberOf, outOf, streamOut}
 
 -- no line has the number 0
 abbrev pub Numbered : List Line → Type 0
@@ -110,12 +110,17 @@ walk-zero way w room =
     zero-is-done (λ x. x .number) (refusal (w .set)) (refusal-number (w .set)) (walkLines way w) (walkValues way w room) (walk-numbered way w)
 
 -- .. and a stream's start and feed
-pub start-zero : (store : List ℕ) → (streamNumberOf (startedOf store) ≡ 0) ↔ (startedOf store ≡ done startRecord)
-start-zero store = zero-is-done (λ k. k) (λ k. k) (λ k. refl) (startLines store) startRecord (positive 6, tt)
+start-numbered : (k : ℕ) (store : List ℕ) → Numbered (startLines k store)
+start-numbered k store = (positive 8, (positive 6, tt))
 
-pub feed-zero : (s : Stream) (store input out : List ℕ) → (streamNumberOf (fedOf s store input out) ≡ 0) ↔ (fedOf s store input out ≡ done (fedRecord s input))
-feed-zero s store input out =
-    zero-is-done (λ k. k) (λ k. k) (λ k. refl) (feedLines s store input out) (fedRecord s input) (positive 6, (positive 8, (positive 5, tt)))
+feed-numbered : (c : Call ℕ) → Numbered (linesOf c)
+feed-numbered c = (positive 8, (positive 6, (positive 8, (positive 5, tt))))
+
+pub start-zero : (k : ℕ) (store : List ℕ) → (streamNumberOf (startedOf k store) ≡ 0) ↔ (startedOf k store ≡ done (startRecord k))
+start-zero k store = zero-is-done (λ n. n) (λ n. n) (λ n. refl) (startLines k store) (startRecord k) (start-numbered k store)
+
+pub feed-zero : (c : Call ℕ) → (streamNumberOf (says c) ≡ 0) ↔ (says c ≡ done (fedRecord (c .way) (c .stream) (c .input)))
+feed-zero c = zero-is-done (λ n. n) (λ n. n) (λ n. refl) (linesOf c) (fedRecord (c .way) (c .stream) (c .input)) (feed-numbered c)
 
 -- and any other number exactly when the call is refused with it: its line is the first that applies (its sentences are Condition 1's)
 module _ (s : Set) (k : ℕ) (p : k ≢ 0) where
@@ -135,12 +140,11 @@ unfolding walkedOf
 walk-first way w room k p =
     number-is-first (λ x. x .number) (refusal (w .set)) (refusal-number (w .set)) (walkLines way w) (walkValues way w room) (walk-numbered way w) k p
 
-pub start-first : (store : List ℕ) (k : ℕ) → k ≢ 0 → (streamNumberOf (startedOf store) ≡ k) ↔ First (startLines store) k
-start-first store k p = number-is-first (λ k. k) (λ k. k) (λ k. refl) (startLines store) startRecord (positive 6, tt) k p
+pub start-first : (k : ℕ) (store : List ℕ) (n : ℕ) → n ≢ 0 → (streamNumberOf (startedOf k store) ≡ n) ↔ First (startLines k store) n
+start-first k store n p = number-is-first (λ i. i) (λ i. i) (λ i. refl) (startLines k store) (startRecord k) (start-numbered k store) n p
 
-pub feed-first : (s : Stream) (store input out : List ℕ) (k : ℕ) → k ≢ 0 → (streamNumberOf (fedOf s store input out) ≡ k) ↔ First (feedLines s store input out) k
-feed-first s store input out k p =
-    number-is-first (λ k. k) (λ k. k) (λ k. refl) (feedLines s store input out) (fedRecord s input) (positive 6, (positive 8, (positive 5, tt))) k p
+pub feed-first : (c : Call ℕ) (n : ℕ) → n ≢ 0 → (streamNumberOf (says c) ≡ n) ↔ First (linesOf c) n
+feed-first c n p = number-is-first (λ i. i) (λ i. i) (λ i. refl) (linesOf c) (fedRecord (c .way) (c .stream) (c .input)) (feed-numbered c) n p
 
 -- an out-parameter of each call is what any lent buffer is: the address ..
 pub address-out : (way : Way) (s : Set) (x old : ℕ) → outOf (foundOf way s x) (λ a. a) old ≡ after (oneLines s x) (ruleIn way s .l x) old
@@ -159,10 +163,9 @@ module _ (way : Way) (w : Walk) (room old : ℕ) where
   unfolding walkValues walkNext
   walk-outs = (walk-out (λ v. v .next .cell), walk-out (λ v. v .written), walk-out (λ v. v .cells))
 
--- .. and the phase
-pub start-out : (store : List ℕ) (old : ℕ) → phaseOut (startedOf store) old ≡ after (startLines store) (startRecord .phase) old
-start-out store old = out-is-after (λ k. k) (startLines store) startRecord (λ s. s .phase) old
+-- .. and the numbers of a stream's record: a refused start, too, leaves them as they were
+pub start-out : (k : ℕ) (store old : List ℕ) → streamOut (startedOf k store) old ≡ after (startLines k store) (streamList (startRecord k)) old
+start-out k store old = out-is-after (λ n. n) (startLines k store) (startRecord k) streamList old
 
-pub feed-out : (s : Stream) (store input out : List ℕ) (old : ℕ)
-    → phaseOut (fedOf s store input out) old ≡ after (feedLines s store input out) (fedRecord s input .phase) old
-feed-out s store input out old = out-is-after (λ k. k) (feedLines s store input out) (fedRecord s input) (λ s. s .phase) old
+pub feed-out : (c : Call ℕ) (old : List ℕ) → streamOut (says c) old ≡ after (linesOf c) (streamList (fedRecord (c .way) (c .stream) (c .input))) old
+feed-out c old = out-is-after (λ n. n) (linesOf c) (fedRecord (c .way) (c .stream) (c .input)) streamList old
