@@ -2,39 +2,51 @@
 # Part of tests/run: whole files through the filters.
 
 size=6291456
-late=2244
 seq 1000000 | head -c $size >"$work/six"
 
 # bytes of a file as numbers, one a line
 bytes() { od -An -v -tu1 -w1 | tr -d ' '; }
 
-# The stream by its closed form: output byte t is input byte t less 204 for each branch to wait for, or the fill where there is none.
-head -c 9000 "$work/six" >"$work/in"
-stream_by_formula() {
-    bytes <"$work/in" | awk -v fill="$1" -v back="$2" '{ x[NR - 1] = $1 } END {
+# A stream by its closed form: output byte t is input byte t less branches times step for each branch to wait for, or the fill where there is none.
+# by_formula BRANCHES STEP FILL BACK
+by_formula() {
+    bytes <"$work/in" | awk -v branches="$1" -v step="$2" -v fill="$3" -v back="$4" '{ x[NR - 1] = $1 } END {
         for (t = 0; t < NR; t++) {
-            branch = back ? 11 - t % 12 : t % 12
-            from = t - 204 * branch
+            branch = back ? branches - 1 - t % branches : t % branches
+            from = t - branches * step * branch
             print from < 0 ? fill : x[from]
         }
     }' >"$work/want"
 }
-stream_by_formula 65 0
-./interleaver dvb interleave 65 <"$work/in" | bytes | cmp -s - "$work/want"
-expect 'dvb interleave by the closed form' $?
-stream_by_formula 66 1
-./interleaver dvb deinterleave 66 <"$work/in" | bytes | cmp -s - "$work/want"
-expect 'dvb deinterleave by the closed form' $?
 
-# A stream of 6 MB: as long, 2,244 bytes late, behind the fill; the second time in ragged reads.
-./interleaver dvb interleave 0 <"$work/six" | ./interleaver dvb deinterleave 0 >"$work/back"
-tail -c +$((late + 1)) "$work/back" | cmp -s - "$work/six" -n $((size - late)) && [ "$(wc -c <"$work/back")" -eq $size ]
-expect 'a stream of 6 MB comes back, 2,244 bytes late' $?
-[ "$(head -c $late "$work/back" | tr -d '\000' | wc -c)" -eq 0 ]
-expect 'the fill comes first' $?
-dd if="$work/six" bs=777 2>/dev/null | ./interleaver dvb interleave 65 | dd bs=131 2>/dev/null | ./interleaver dvb deinterleave 65 >"$work/ragged"
-[ "$(head -c $late "$work/ragged" | tr -d A | wc -c)" -eq 0 ] && tail -c +$((late + 1)) "$work/ragged" | cmp -s - "$work/six" -n $((size - late))
-expect 'the same in ragged reads, behind another fill' $?
+# came_back FILE LATE: whether the 6 MB are in the file, as long and so many bytes late
+came_back() { tail -c +$(($2 + 1)) "$1" | cmp -s - "$work/six" -n $((size - $2)) && [ "$(wc -c <"$1")" -eq $size ]; }
+
+# streams KIND BRANCHES STEP LATE: by the closed form, and 6 MB through both machines, the second time in ragged reads
+streams() {
+    head -c 30000 "$work/six" >"$work/in"
+    by_formula "$2" "$3" 65 0
+    ./interleaver "$1" interleave 65 <"$work/in" | bytes | cmp -s - "$work/want"
+    expect "$1 interleave by the closed form" $?
+    by_formula "$2" "$3" 66 1
+    ./interleaver "$1" deinterleave 66 <"$work/in" | bytes | cmp -s - "$work/want"
+    expect "$1 deinterleave by the closed form" $?
+    ./interleaver "$1" interleave 0 <"$work/six" | ./interleaver "$1" deinterleave 0 >"$work/back"
+    came_back "$work/back" "$4"
+    expect "$1: a stream of 6 MB comes back, $4 bytes late" $?
+    [ "$(head -c "$4" "$work/back" | tr -d '\000' | wc -c)" -eq 0 ]
+    expect "$1: the fill comes first" $?
+    dd if="$work/six" bs=777 2>/dev/null | ./interleaver "$1" interleave 65 | dd bs=131 2>/dev/null | ./interleaver "$1" deinterleave 65 >"$work/ragged"
+    [ "$(head -c "$4" "$work/ragged" | tr -d A | wc -c)" -eq 0 ] && came_back "$work/ragged" "$4"
+    expect "$1: the same in ragged reads, behind another fill" $?
+}
+streams dvb 12 17 2244
+streams atsc 52 4 10608
+
+# Through the machines of two kinds nothing comes back.
+./interleaver dvb interleave 0 <"$work/six" | ./interleaver atsc deinterleave 0 >"$work/back"
+[ "$(wc -c <"$work/back")" -eq $size ] && ! came_back "$work/back" 2244 && ! came_back "$work/back" 10608
+expect 'not back through the other kind' $?
 
 # Blocks of every width, there and back.
 for set in '1 1 24' '3 6 288' '5 1 5114'; do
@@ -78,7 +90,7 @@ head -c 700 "$work/six" | ./interleaver interleave 3 6 288 2>"$work/said" >"$wor
 expect 'nothing of a short last block is written' $?
 
 # A read that fails is said, and nothing is written.
-for filter in 'interleave 3 6 288' 'deinterleave 5 1 5114 4' 'dvb interleave 0' 'dvb deinterleave 0'; do
+for filter in 'interleave 3 6 288' 'deinterleave 5 1 5114 4' 'dvb interleave 0' 'dvb deinterleave 0' 'atsc interleave 0' 'atsc deinterleave 0'; do
     # shellcheck disable=SC2086
     ./interleaver $filter <"$work" >"$work/out" 2>"$work/said"
     [ $? -eq 1 ] && said 'interleaver: reading: ' && [ ! -s "$work/out" ]

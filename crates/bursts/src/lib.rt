@@ -1,4 +1,4 @@
-// A burst in the DVB channel, for a person: where each of its bytes comes out of the deinterleaver, and how far apart.
+// A burst in the channel of DVB or ATSC, for a person: where each of its bytes comes out of the deinterleaver, and how far apart.
 pub mod page; // page.rt: as a table
 pub mod picture; // picture.rt: as an SVG
 
@@ -21,9 +21,13 @@ fn limited(length: u32) -> u32
 }
 
 // The least distance between any two of the first n bytes, in words.
-fn least(at: u32, n: u32) {
+fn least(kind: u32, at: u32, n: u32) {
     if n > 1 {
-        say(STDOUT_FILENO, b"least distance ", channel::nearest(at, n));
+        say(
+            STDOUT_FILENO,
+            b"least distance ",
+            channel::nearest(kind, at, n),
+        );
         return;
     }
     write(STDOUT_FILENO, b"least distance none");

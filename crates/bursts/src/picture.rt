@@ -1,7 +1,10 @@
 // A burst as an SVG: above the channel with the burst in it, below the deinterleaver's output, and a stroke for each byte from the one to the other.
-// Across are bytes, from the burst's first on; a stroke is wider than a byte.
+// Across are bytes, from the burst's first on, and fifths of them where the kind is ATSC, so that the pictures of both kinds have one width. A stroke
+// is wider than a byte.
 use super::least;
 use super::limited;
+use kinds::Stream;
+use kinds::sizes::Sizes;
 use libc::STDOUT_FILENO;
 use words::text::put;
 use words::text::put_number;
@@ -9,39 +12,85 @@ use words::text::say;
 use words::text::write;
 ghost use Prim.Native.Nat.{_≤_};
 
-// No byte comes out more places than this behind its own number.
-const DELAY: u64 = 2244;
+// The number that goes with a kind.
+fn by(kind: u32, dvb: u64, atsc: u64) -> u64 {
+    if kind == Stream::DVB { dvb } else { atsc }
+}
+
+// How many whole units x bytes are.
+fn units(kind: u32, x: u64) -> u64
+    ensures { λ r. ⌜ r ≤ x ⌝ }
+{
+    if kind == Stream::DVB { x } else { x / 5 }
+}
+
+// x bytes, in units.
+fn put_units(room: &mut [u8; 4096], from: usize, kind: u32, x: u64) -> usize {
+    let end = put_number(room, from, units(kind, x));
+    if kind == Stream::DVB {
+        return end;
+    }
+    let point = put(room, end, b".");
+    put_number(room, point, x % 5 * 2)
+}
 
 // Where byte i comes out, counted from the burst's first.
-fn across(at: u32, i: u32) -> u64 {
-    channel::place(at, i) - at as u64
+fn across(kind: u32, at: u32, i: u32) -> u64 {
+    channel::place(kind, at, i) - at as u64
 }
 
 // A stroke for each byte: through the channel, to its place, through the output.
-fn strokes(at: u32, n: u32) {
+fn strokes(kind: u32, at: u32, n: u32) {
     let mut room = [0u8; 4096];
     let mut end = 0;
     let mut i = 0;
     while i < n {
         end = put(&mut room, end, b"M");
-        end = put_number(&mut room, end, i as u64);
+        end = put_units(&mut room, end, kind, i as u64);
         end = put(&mut room, end, b" 0v100L");
-        end = put_number(&mut room, end, across(at, i));
+        end = put_units(&mut room, end, kind, across(kind, at, i));
         end = put(&mut room, end, b" 350v100");
         i += 1;
     }
     words::text::flush(&room, end);
 }
 
-// The place of each byte below its stroke, where there is room for it.
-fn numbers(at: u32, n: u32) {
+// The place of each byte, between `before` and `behind` where it stands.
+fn places(kind: u32, at: u32, n: u32, before: &[u8], behind: &[u8]) {
+    let mut room = [0u8; 4096];
+    let mut end = 0;
     let mut i = 0;
     while i < n {
-        say(STDOUT_FILENO, b"<text x=\"", across(at, i));
-        say(STDOUT_FILENO, b"\" y=\"490\">", channel::place(at, i));
-        write(STDOUT_FILENO, b"</text>");
+        end = put(&mut room, end, before);
+        end = put_units(&mut room, end, kind, across(kind, at, i));
+        end = put(&mut room, end, behind);
+        end = put_number(&mut room, end, channel::place(kind, at, i));
+        end = put(&mut room, end, b"</text>");
         i += 1;
     }
+    words::text::flush(&room, end);
+}
+
+// The places below the strokes. ATSC's stand closer, and theirs are turned upright.
+fn numbers(kind: u32, at: u32, n: u32) {
+    write(
+        STDOUT_FILENO,
+        b"<g font-family=\"sans-serif\" fill=\"#444\" font-size=\"36\"",
+    );
+    if kind == Stream::DVB {
+        write(STDOUT_FILENO, b" text-anchor=\"middle\">");
+        places(kind, at, n, b"<text x=\"", b"\" y=\"490\">");
+    } else {
+        write(STDOUT_FILENO, b">");
+        places(
+            kind,
+            at,
+            n,
+            b"<text transform=\"translate(",
+            b" 465)rotate(90)\" y=\"13\">",
+        );
+    }
+    write(STDOUT_FILENO, b"</g>\n");
 }
 
 // A bar across the picture.
@@ -69,7 +118,7 @@ fn bytes(at: u32, n: u32)
 }
 
 // What the two bars are.
-fn captions(at: u32, n: u32)
+fn captions(kind: u32, at: u32, n: u32)
     requires { ⌜ (1 ≤ n) × (n ≤ 1024) ⌝ }
 {
     write(
@@ -77,48 +126,65 @@ fn captions(at: u32, n: u32)
         b"<g font-family=\"sans-serif\" fill=\"#444\" font-size=\"50\"><text y=\"-30\">channel: ",
     );
     bytes(at, n);
-    write(
-        STDOUT_FILENO,
-        b"</text><text y=\"560\">out of the deinterleaver: ",
-    );
-    least(at, n);
+    say(STDOUT_FILENO, b"</text><text y=\"", by(kind, 560, 700));
+    write(STDOUT_FILENO, b"\">out of the deinterleaver: ");
+    least(kind, at, n);
     write(STDOUT_FILENO, b"</text></g>\n");
 }
 
-fn head(at: u32, n: u32)
-    requires { ⌜ (1 ≤ n) × (n ≤ 1024) ⌝ }
-{
-    let width = n as u64 + DELAY;
-    say(
-        STDOUT_FILENO,
-        b"<svg xmlns=\"http://www.w3.org/2000/svg\" width=\"640\" height=\"190\" viewBox=\"-110 -100 ",
-        width + 220,
-    );
-    write(
-        STDOUT_FILENO,
-        b" 700\">\n<title>DVB: a burst in the channel, and where its bytes come out of the deinterleaver</title>\n",
-    );
-    bar(0, width + 10);
-    bar(350, width + 10);
-    captions(at, n);
-}
-
-// `picture dvb burst`.
-pub fn picture(at: u32, length: u32) {
-    let n = limited(length);
-    head(at, n);
-    if (n <= 12) & (at < 1000000) {
-        write(
-            STDOUT_FILENO,
-            b"<g font-family=\"sans-serif\" fill=\"#444\" font-size=\"36\" text-anchor=\"middle\">",
-        );
-        numbers(at, n);
-        write(STDOUT_FILENO, b"</g>\n");
+// The title.
+fn title(kind: u32) {
+    write(STDOUT_FILENO, b"<title>");
+    if kind == Stream::DVB {
+        write(STDOUT_FILENO, b"DVB");
+    } else {
+        write(STDOUT_FILENO, b"ATSC");
     }
     write(
         STDOUT_FILENO,
-        b"<path fill=\"none\" stroke=\"#046\" stroke-width=\"6\" d=\"",
+        b": a burst in the channel, and where its bytes come out of the deinterleaver</title>\n",
     );
-    strokes(at, n);
+}
+
+// No byte comes out more places than this behind its own number: twice the store's length.
+fn longest_delay(kind: u32) -> u64
+    ensures { λ r. ⌜ r ≤ 10608 ⌝ }
+{
+    Sizes::of(kind).store as u64 * 2
+}
+
+fn head(kind: u32, at: u32, n: u32)
+    requires { ⌜ (1 ≤ n) × (n ≤ 1024) ⌝ }
+{
+    let width = units(kind, n as u64 + longest_delay(kind));
+    say(
+        STDOUT_FILENO,
+        b"<svg xmlns=\"http://www.w3.org/2000/svg\" width=\"640\" height=\"",
+        by(kind, 190, 230),
+    );
+    say(STDOUT_FILENO, b"\" viewBox=\"-110 -100 ", width + 220);
+    say(STDOUT_FILENO, b" ", by(kind, 700, 840));
+    write(STDOUT_FILENO, b"\">\n");
+    title(kind);
+    bar(0, width + 10);
+    bar(350, width + 10);
+    captions(kind, at, n);
+}
+
+// `picture dvb burst` and `picture atsc burst`. The places are told where strokes are few, so that none stands closer than the proved distance, and
+// the numbers short.
+pub fn picture(kind: u32, at: u32, length: u32) {
+    let n = limited(length);
+    head(kind, at, n);
+    if (n as usize <= Sizes::of(kind).branches) & (at < 1000000) {
+        numbers(kind, at, n);
+    }
+    say(
+        STDOUT_FILENO,
+        b"<path fill=\"none\" stroke=\"#046\" stroke-width=\"",
+        by(kind, 6, 3),
+    );
+    write(STDOUT_FILENO, b"\" d=\"");
+    strokes(kind, at, n);
     write(STDOUT_FILENO, b"\"/>\n</svg>\n");
 }

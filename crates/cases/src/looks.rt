@@ -33,11 +33,24 @@ pub fn written(bytes: &[u8]) -> u64 {
     n
 }
 
-// At how many bytes two stores differ.
-pub fn differing(a: &[u8; 1122], b: &[u8; 1122]) -> u64 {
+// At how many bytes two stores of one length differ.
+pub fn differing(a: &[u8], b: &[u8]) -> u64 {
     let mut n: u64 = 0;
     let mut i = 0;
-    while i < 1122 {
+    while i < a.len() && i < b.len() {
+        if a[i] != b[i] {
+            n = more(n);
+        }
+        i += 1;
+    }
+    n
+}
+
+// How many places of a record are others.
+pub fn moved(a: &[u32; 51], b: &[u32; 51]) -> u64 {
+    let mut n: u64 = 0;
+    let mut i = 0;
+    while i < 51 {
         if a[i] != b[i] {
             n = more(n);
         }

@@ -6,6 +6,7 @@ mod squares;
 mod turned;
 mod words;
 
+use kinds::Stream;
 use laws::Way;
 use looks::MARK;
 use sets::Set;
@@ -221,6 +222,8 @@ fn main() {
     show_blocks(Way::Interleaver);
     show_blocks(Way::Deinterleaver);
     show_softs();
-    nothing::feeds(Way::Interleaver);
-    nothing::feeds(Way::Deinterleaver);
+    nothing::feeds(Stream::DVB, Way::Interleaver);
+    nothing::feeds(Stream::DVB, Way::Deinterleaver);
+    nothing::feeds(Stream::ATSC, Way::Interleaver);
+    nothing::feeds(Stream::ATSC, Way::Deinterleaver);
 }

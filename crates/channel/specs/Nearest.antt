@@ -1,17 +1,34 @@
--- The least distance between any two bytes of a burst in the DVB channel, where they come out of the deinterleaver. The burst begins at channel
--- byte `at`; its bytes are counted from 0.
-use Prim.Native.Nat.{ℕ, zero, suc, _+_, _-_, _≤_, _<_, min}
+-- The least distance between any two bytes of a burst in the channel, where they come out of the deinterleaver of a kind. The burst begins at
+-- channel byte `at`; its bytes are counted from 0.
+use Prim.Native.Nat.{ℕ, zero, suc, _+_, _-_, _*_, _%_, _≤_, _<_, min}
 use mathlib.Core.Path.{_≡_, refl, _∙_}
-use native.Mathlib.Nat.{le-refl, le-trans, min-le-left, min-le-right, min-eq-left, min-eq-right}
+use native.Mathlib.Nat.{mul-le-mul, le-refl, le-trans, min-le-left, min-le-right, min-eq-left, min-eq-right}
 use native.Mathlib.Omega.{arith}
 use native.Mathlib.Decide.{decLt}
 use lib.Dec.{lit<}
-use Rattle.delay.specs.Machine.{comesAt, spreadOf}
+use Rattle.delay.specs.Machine.{spreadOf}
 use Rattle.delay.specs.Burst.{distance, spread}
+use Rattle.kinds.specs.declared.sizes.Sizes.{Sizes}
+use Rattle.kinds.specs.Kinds.{sizesOf, sound, Sized, placeIn}
+
+-- how many places behind its own number channel byte a comes out
+abbrev pub delayOf : ℕ → ℕ → ℕ
+delayOf kind a = sizesOf kind .step * sizesOf kind .branches * (sizesOf kind .branches - 1 - a % sizesOf kind .branches)
+
+-- by the kind's numbers, which are small
+module _ {kind : ℕ} {z : Sizes} (e : Sized kind z) where
+  pub turn-low : z .step * z .branches ≤ 17 * 52
+  turn-low = mul-le-mul (e .short) (e .few)
+
+  pub delay-low : (a : ℕ) → z .step * z .branches * (z .branches - 1 - a % z .branches) ≤ 17 * 52 * 51
+  delay-low a = mul-le-mul {m₂ = 51} turn-low (omega (arith, e .few))
+
+  pub delay-is : (a : ℕ) → z .step * z .branches * (z .branches - 1 - a % z .branches) ≡ delayOf kind a
+  delay-is a = rw (e .branches, e .step)
 
 -- how far apart bytes i and k come out
-unfoldable pub apart : ℕ → ℕ → ℕ → ℕ
-apart at i k = distance (comesAt 12 17 (at + i)) (comesAt 12 17 (at + k))
+unfoldable pub apart : ℕ → ℕ → ℕ → ℕ → ℕ
+apart kind at i k = distance (placeIn kind (at + i)) (placeIn kind (at + k))
 
 -- the least of g 0, .., g n
 unfoldable pub least : (ℕ → ℕ) → ℕ → ℕ
@@ -19,12 +36,12 @@ least g zero = g 0
 least g (suc n) = min (least g n) (g (suc n))
 
 -- of byte k + 1 from those before it
-unfoldable pub nearestBefore : ℕ → ℕ → ℕ
-nearestBefore at k = least (λ i. apart at i (suc k)) k
+unfoldable pub nearestBefore : ℕ → ℕ → ℕ → ℕ
+nearestBefore kind at k = least (λ i. apart kind at i (suc k)) k
 
 -- of any two of the first n; where they are fewer than two, of the first two
-unfoldable pub nearestOf : ℕ → ℕ → ℕ
-nearestOf at n = least (nearestBefore at) (n - 2)
+unfoldable pub nearestOf : ℕ → ℕ → ℕ → ℕ
+nearestOf kind at n = least (nearestBefore kind at) (n - 2)
 
 -- ---- a loop that has gone through g 0, .., g (i - 1)
 
@@ -44,16 +61,16 @@ gone-more g i d i′ d′ h e q =
     record { some = omega (arith, e); is = rw k (q ∙ cc (h .is, j)) }
 
 -- through all before byte k
-pub gone-before : (at k d : ℕ) → Gone (λ m. apart at m k) k d → d ≡ nearestBefore at (k - 1)
+pub gone-before : (kind at k d : ℕ) → Gone (λ m. apart kind at m k) k d → d ≡ nearestBefore kind at (k - 1)
 unfolding nearestBefore
-gone-before at k d h =
+gone-before kind at k d h =
     let e : suc (k - 1) ≡ k = omega (arith, h .some) in
     rw e (h .is)
 
 -- through all of the first n
-pub gone-all : (at n k d : ℕ) → Gone (nearestBefore at) (k - 1) d → k - 2 ≡ n - 2 → d ≡ nearestOf at n
+pub gone-all : (kind at n k d : ℕ) → Gone (nearestBefore kind at) (k - 1) d → k - 2 ≡ n - 2 → d ≡ nearestOf kind at n
 unfolding nearestOf
-gone-all at n k d h q =
+gone-all kind at n k d h q =
     let e : k - 1 - 1 ≡ n - 2 = omega (arith, q) in
     rw e at (h .is)
 
@@ -78,25 +95,38 @@ least-is g (suc n) = go (least-is g n) (decLt (g (suc n)) (least g n))
     go p (yes l) = (suc n, le-refl (suc n), min-eq-right (omega (arith, l)))
     go p (no m) = (p .0, omega (arith, p .1), min-eq-left (omega (arith, m)) ∙ p .2)
 
--- no two bytes come out nearer ..
-pub nearest-below : (at n i k : ℕ) → i < k → k < n → nearestOf at n ≤ apart at i k
-unfolding nearestBefore nearestOf
-nearest-below at n i k h l =
-    let e : suc (k - 1) ≡ k = omega (arith, h) in
-    let all : nearestOf at n ≤ nearestBefore at (k - 1) = least-below (nearestBefore at) (n - 2) (k - 1) (omega (arith, h, l)) in
-    rw e at (le-trans all (least-below (λ m. apart at m (suc (k - 1))) (k - 1) i (omega (arith, h))))
+module _ (kind at n : ℕ) where
+  -- no two bytes come out nearer ..
+  pub nearest-below : (i k : ℕ) → i < k → k < n → nearestOf kind at n ≤ apart kind at i k
+  unfolding nearestBefore nearestOf
+  nearest-below i k h l =
+      let e : suc (k - 1) ≡ k = omega (arith, h) in
+      let all : nearestOf kind at n ≤ nearestBefore kind at (k - 1) = least-below (nearestBefore kind at) (n - 2) (k - 1) (omega (arith, h, l)) in
+      rw e at (le-trans all (least-below (λ m. apart kind at m (suc (k - 1))) (k - 1) i (omega (arith, h))))
 
--- .. and two do so near
-pub nearest-reached : (at n : ℕ) → 1 < n → (i : ℕ) × (k : ℕ) × (i < k) × (k < n) × (nearestOf at n ≡ apart at i k)
-unfolding nearestBefore nearestOf
-nearest-reached at n h =
-    let p = least-is (nearestBefore at) (n - 2) in
-    let q = least-is (λ m. apart at m (suc (p .0))) (p .0) in
-    (q .0, suc (p .0), omega (arith, q .1), omega (arith, p .1, h), p .2 ∙ q .2)
+  -- .. and two do so near
+  pub nearest-reached : 1 < n → (i : ℕ) × (k : ℕ) × (i < k) × (k < n) × (nearestOf kind at n ≡ apart kind at i k)
+  unfolding nearestBefore nearestOf
+  nearest-reached h =
+      let p = least-is (nearestBefore kind at) (n - 2) in
+      let q = least-is (λ m. apart kind at m (suc (p .0))) (p .0) in
+      (q .0, suc (p .0), omega (arith, q .1), omega (arith, p .1, h), p .2 ∙ q .2)
 
--- a burst of at most 12 bytes comes out 203 or more apart
-pub nearest-within : (at n : ℕ) → 1 < n → n ≤ 12 → 203 ≤ nearestOf at n
-unfolding apart spreadOf
-nearest-within at n h l =
-    let r = nearest-reached at n h in
-    rw (r .4) (spread 12 17 (lit< tt) (lit< tt) (at + r .0) (at + r .1) (λ e. omega (arith, e, r .2)) (omega (arith, r .2, r .3, l)))
+  -- a burst of no more bytes than there are branches comes out branches·step - 1 or more apart
+  pub nearest-within : 1 < n → n ≤ sizesOf kind .branches → spreadOf (sizesOf kind .branches) (sizesOf kind .step) ≤ nearestOf kind at n
+  unfolding apart
+  nearest-within h l =
+      let r = nearest-reached h in
+      let z = sound kind in
+      rw (r .4)
+      (spread (sizesOf kind .branches) (sizesOf kind .step) (z .some-branches) (z .some-step) (at + r .0) (at + r .1) (λ e. omega (arith, e, r .2)) (omega (arith, r .2, r .3, l)))
+
+-- of DVB that is 203 ..
+pub nearest-within-dvb : (at n : ℕ) → 1 < n → n ≤ 12 → 203 ≤ nearestOf 1 at n
+unfolding sizesOf spreadOf
+nearest-within-dvb = nearest-within 1
+
+-- .. and of ATSC 207
+pub nearest-within-atsc : (at n : ℕ) → 1 < n → n ≤ 52 → 207 ≤ nearestOf 2 at n
+unfolding sizesOf spreadOf
+nearest-within-atsc = nearest-within 2

@@ -1,5 +1,7 @@
 // Bursts in the channel of a deinterleaver, found again in what comes out: their bytes are 1, 2, .. and every other byte is 0.
 use super::plus;
+use super::standards;
+ghost use Prim.Native.Nat.{_≤_};
 
 // How many bytes of bursts were found, how many of them not at their place, and the least distance of two of one burst.
 pub struct Seen {
@@ -8,12 +10,14 @@ pub struct Seen {
     pub nearest: u64,
 }
 
-// Where channel byte a comes out, by its queue: it waits for as many more bytes of its branch as the queue is long, and each twelfth byte is one.
-fn place(a: u64) -> u64 {
-    let mut u = a;
-    let mut left = 17 * (11 - a % 12);
+// Where channel byte a comes out, by its queue: it waits for as many more bytes of its branch as the queue is long, and of as many bytes as there are
+// branches one is.
+fn place(kind: u32, a: usize) -> u64 {
+    let branches = standards::branches(kind);
+    let mut u = a as u64;
+    let mut left = standards::queue(kind, branches - 1 - standards::rest(a, branches));
     while left > 0 {
-        u = plus(u, 12);
+        u = plus(u, branches as u64);
         left -= 1;
     }
     u
@@ -66,24 +70,28 @@ impl Seen {
     }
 
     // Byte i of the burst from byte `at` on, at place t, and the one before it in the output at the last.
-    fn with(self, at: usize, i: u8, t: usize, last: usize) -> Self {
-        let a = plus(at as u64, i as u64);
+    fn with(self, kind: u32, at: usize, i: u8, t: usize, last: usize) -> Self
+        requires { ⌜ at ≤ 104 ⌝ }
+    {
+        let a = at + i as usize;
         Seen {
             found: plus(self.found, 1),
-            wrong: plus(self.wrong, one_if(place(a) != t as u64)),
+            wrong: plus(self.wrong, one_if(place(kind, a) != t as u64)),
             nearest: least(self.nearest, behind(t, last)),
         }
     }
 
     // And what came out of the deinterleaver for a channel with a burst from byte `at` on.
-    pub fn look(self, at: usize, out: &[u8]) -> Self {
+    pub fn look(self, kind: u32, at: usize, out: &[u8]) -> Self
+        requires { ⌜ at ≤ 104 ⌝ }
+    {
         let mut seen = self;
         let mut last = usize::MAX;
         let mut t = 0;
         while t < out.len() {
             let v = out[t];
             if v > 0 {
-                seen = seen.with(at, v - 1, t, last);
+                seen = seen.with(kind, at, v - 1, t, last);
                 last = t;
             }
             t += 1;

@@ -1,8 +1,8 @@
-// Standard input to standard output: blocks of symbols, and the DVB stream. A turn of each loop is a function of its own, over slices that are
+// Standard input to standard output: blocks of symbols, and byte streams. A turn of each loop is a function of its own, over slices that are
 // lent once. The loops over the input end by a budget that counts down from the largest u64, which no input meets; a
 // block's, by its length.
 pub mod blocked; // blocked.rt: block after block
-pub mod streamed; // streamed.rt: the stream, in whatever lengths reads give
+pub mod streamed; // streamed.rt: a byte stream, in whatever lengths reads give
 
 use libc::STDERR_FILENO;
 use libc::STDIN_FILENO;

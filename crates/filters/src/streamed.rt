@@ -1,30 +1,35 @@
-// The DVB stream from standard input to standard output.
+// A byte stream of DVB or ATSC from standard input to standard output.
 use super::read_some;
 use super::refused;
 use super::write_out;
+use kinds::Stream;
+use kinds::sizes::Sizes;
 use laws::Way;
-use streams::Fed;
-use streams::Started;
-use streams::Stream;
+use streams::Said;
 
-// How a turn ended.
-enum Going {
-    More(Stream),
-    Stop,
+// How a turn ended: whether to go on, and the record.
+struct Going {
+    on: bool,
+    stream: Stream,
+}
+
+fn stopped(stream: Stream) -> Going {
+    Going { on: false, stream }
 }
 
 // Passes what came through the machine, and writes it.
 fn send(way: Way, s: Stream, store: &mut [u8], input: &[u8], out: &mut [u8]) -> Going {
-    match s.feed(way, store, input, out) {
-        Fed::Next(next) => {
-            if write_out(out) {
-                return Going::More(next);
-            }
-            Going::Stop
-        }
-        Fed::Refused(number) => {
+    let answer = streams::feed(way, s, store, input, out);
+    let said = answer.said;
+    let stream = answer.stream;
+    match said {
+        Said::Done => Going {
+            on: write_out(out),
+            stream,
+        },
+        Said::Refused(number) => {
             refused(number, 0);
-            Going::Stop
+            stopped(stream)
         }
     }
 }
@@ -33,38 +38,50 @@ fn send(way: Way, s: Stream, store: &mut [u8], input: &[u8], out: &mut [u8]) -> 
 fn turn(way: Way, s: Stream, store: &mut [u8], room: &mut [u8], out: &mut [u8]) -> Going {
     let n = read_some(room);
     if n == 0 {
-        return Going::Stop;
+        return stopped(s);
     }
     // (the two rooms are alike, so this is never so)
     if n > out.len() {
-        return Going::Stop;
+        return stopped(s);
     }
     send(way, s, store, &room[..n], &mut out[..n])
 }
 
 fn turns(way: Way, first: Stream, store: &mut [u8], room: &mut [u8], out: &mut [u8]) {
-    let mut s = first;
+    let mut now = Going {
+        on: true,
+        stream: first,
+    };
     let mut left = u64::MAX;
-    while left > 0 {
+    while left > 0 && now.on {
         left -= 1;
-        match turn(way, s, store, room, out) {
-            Going::More(next) => {
-                s = next;
-            }
-            Going::Stop => {
-                return;
-            }
-        }
+        now = turn(way, now.stream, store, room, out);
     }
 }
 
-// `dvb interleave`, and `dvb deinterleave`: the output is as long as the input.
-pub fn through(way: Way, fill: u8) {
-    let mut store = [0u8; Stream::STORE];
+// The stream through a machine in a store of its kind's length.
+fn started(way: Way, kind: u32, fill: u8, store: &mut [u8]) {
     let mut room = io::large_buffer();
     let mut out = io::large_buffer();
-    match streams::start(&mut store, fill) {
-        Started::Ready(s) => turns(way, s, &mut store, &mut room, &mut out),
-        Started::Refused(number) => refused(number, 0),
+    let answer = streams::start(kind, store, fill);
+    let said = answer.said;
+    match said {
+        Said::Done => turns(way, answer.stream, store, &mut room, &mut out),
+        Said::Refused(number) => refused(number, 0),
     }
+}
+
+// The same, with the store in the first bytes of a room, which has as many as any kind takes.
+fn in_room(way: Way, kind: u32, fill: u8, room: &mut [u8]) {
+    let n = Sizes::of(kind).store;
+    if n > room.len() {
+        return;
+    }
+    started(way, kind, fill, &mut room[..n]);
+}
+
+// `dvb interleave`, `atsc interleave` and the way back of each: the output is as long as the input.
+pub fn through(way: Way, kind: u32, fill: u8) {
+    let mut room = [0u8; Stream::ATSC_STORE];
+    in_room(way, kind, fill, &mut room);
 }

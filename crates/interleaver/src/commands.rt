@@ -1,5 +1,6 @@
 // The commands by name, and whether a line has the words that its command takes.
 use check::same;
+use kinds::Stream;
 use lines::word;
 use named::among;
 use told::Command;
@@ -53,7 +54,10 @@ fn moving(w: &[u8]) -> Command {
         return Command::Deinterleave;
     }
     if same(w, b"dvb") {
-        return Command::Dvb;
+        return Command::Stream(Stream::DVB);
+    }
+    if same(w, b"atsc") {
+        return Command::Stream(Stream::ATSC);
     }
     if same(w, b"combine") {
         return Command::Combine;
@@ -78,15 +82,26 @@ fn of_plans(w: &[u8]) -> Command {
 pub fn command_of(line: &[u8]) -> Command {
     let c = named(word(line, 0));
     match c {
-        Command::Dvb => if_next(line, b"burst", Command::Burst, c),
-        Command::Picture => if_next(line, b"dvb", Command::BurstPicture, c),
+        Command::Stream(kind) => stream_of(line, kind),
+        Command::Picture => picture_of(line),
         _ => c,
     }
 }
 
-// The command `yes` where the second word is this one, else `no`.
-fn if_next(line: &[u8], is: &[u8], yes: Command, no: Command) -> Command {
-    if same(word(line, 1), is) { yes } else { no }
+// A burst in the channel of a kind, or its filters.
+fn stream_of(line: &[u8], kind: u32) -> Command {
+    if same(word(line, 1), b"burst") {
+        return Command::Burst(kind);
+    }
+    Command::Stream(kind)
+}
+
+// The picture of a burst where the second word is a kind, or of a set.
+fn picture_of(line: &[u8]) -> Command {
+    match named(word(line, 1)) {
+        Command::Stream(kind) => Command::BurstPicture(kind),
+        _ => Command::Picture,
+    }
 }
 
 // Whether a line has just n words that are not named.
@@ -109,9 +124,9 @@ pub fn in_form(c: Command, line: &[u8]) -> bool {
         Command::Help => has_only(line, 0) | has_only(line, 1),
         Command::Profiles | Command::Lines => has_only(line, 1),
         Command::Factors | Command::Judge => has_only(line, 2),
-        Command::Dvb | Command::Differ => has_only(line, 3),
-        Command::Burst => has_only(line, 4),
-        Command::BurstPicture => {
+        Command::Stream(_) | Command::Differ => has_only(line, 3),
+        Command::Burst(_) => has_only(line, 4),
+        Command::BurstPicture(_) => {
             same(word(line, 2), b"burst") & (has_only(line, 3) | has_only(line, 5))
         }
         Command::At | Command::To => has(line, 5),

@@ -6,6 +6,7 @@ mod names; // names.rt: the numbers that have names
 
 use asked::BurstAsked;
 use asked::SetAsked;
+use kinds::sizes::Sizes;
 use laws::Way;
 use lines::ROOM;
 use lines::word;
@@ -69,16 +70,16 @@ fn move_blocks(way: Way, line: &[u8]) {
     filters::blocked::through(way, set, width);
 }
 
-// The DVB stream, standard input to output.
-fn move_stream(line: &[u8]) {
+// A byte stream, standard input to output.
+fn move_stream(kind: u32, line: &[u8]) {
     match commands::named(word(line, 1)) {
-        Command::Interleave => fill_stream(Way::Interleaver, line),
-        Command::Deinterleave => fill_stream(Way::Deinterleaver, line),
-        _ => told::usage(Command::Dvb),
+        Command::Interleave => fill_stream(Way::Interleaver, kind, line),
+        Command::Deinterleave => fill_stream(Way::Deinterleaver, kind, line),
+        _ => told::usage(Command::Stream(kind)),
     }
 }
 
-fn fill_stream(way: Way, line: &[u8]) {
+fn fill_stream(way: Way, kind: u32, line: &[u8]) {
     let Number::Value(fill) = asked::small_number(line, 2, b"FILL", 255, b"255") else {
         return;
     };
@@ -86,26 +87,24 @@ fn fill_stream(way: Way, line: &[u8]) {
     if fill > 255 {
         return;
     }
-    filters::streamed::through(way, fill as u8);
+    filters::streamed::through(way, kind, fill as u8);
 }
 
-// A burst in the channel: a table, or a picture, whose numbers are words further on and may be left out.
-fn show_burst(c: Command, line: &[u8]) {
-    match c {
-        Command::Burst => {
-            if let BurstAsked::Given { at, length } = asked::burst(line, 2, 3) {
-                bursts::page::table(at, length);
-            }
-        }
-        _ => {
-            if asked::plain(line, 3).len() == 0 {
-                bursts::picture::picture(0, 12);
-                return;
-            }
-            if let BurstAsked::Given { at, length } = asked::burst(line, 3, 4) {
-                bursts::picture::picture(at, length);
-            }
-        }
+// A burst in the channel as a table.
+fn show_burst(kind: u32, line: &[u8]) {
+    if let BurstAsked::Given { at, length } = asked::burst(line, 2, 3) {
+        bursts::page::table(kind, at, length);
+    }
+}
+
+// The same as a picture, whose numbers may be left out: then it is of a byte in each branch.
+fn draw_burst(kind: u32, line: &[u8]) {
+    if asked::plain(line, 3).len() == 0 {
+        bursts::picture::picture(kind, 0, Sizes::of(kind).branches as u32);
+        return;
+    }
+    if let BurstAsked::Given { at, length } = asked::burst(line, 3, 4) {
+        bursts::picture::picture(kind, at, length);
     }
 }
 
@@ -142,7 +141,8 @@ fn ask(c: Command, line: &[u8]) {
     match c {
         Command::Help => told::help(),
         Command::Profiles => pages::admitted::table(),
-        Command::Burst | Command::BurstPicture => show_burst(c, line),
+        Command::Burst(kind) => show_burst(kind, line),
+        Command::BurstPicture(kind) => draw_burst(kind, line),
         Command::Factors => show_factors(line),
         _ => answer(c, line),
     }
@@ -176,7 +176,7 @@ fn answer_line(line: &[u8]) {
     match c {
         Command::Interleave
         | Command::Deinterleave
-        | Command::Dvb
+        | Command::Stream(_)
         | Command::Combine
         | Command::Judge
         | Command::Differ
@@ -213,7 +213,7 @@ fn obey(line: &[u8]) {
         Command::Lines => answer_lines(),
         Command::Interleave => move_blocks(Way::Interleaver, line),
         Command::Deinterleave => move_blocks(Way::Deinterleaver, line),
-        Command::Dvb => move_stream(line),
+        Command::Stream(kind) => move_stream(kind, line),
         Command::Judge => plan_pages::judged::judge(2),
         Command::Differ => plan_pages::compared::differ(2, 3),
         _ => ask(c, line),

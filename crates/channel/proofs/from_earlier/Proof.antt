@@ -8,10 +8,10 @@ use Rattle.channel.proofs.from_earlier.Statement.{statement}
 use Rattle.channel.proofs.from_earlier.Tie as tie
 
 abbrev Inv-loop : tie.InvT-loop
-Inv-loop at k d₀ i₀ d i = Gone (λ m. apart at m k) i d × (i ≤ k)
+Inv-loop kind at k d₀ i₀ d i = Gone (λ m. apart kind at m k) i d × (i ≤ k)
 
 abbrev μ-loop : tie.MeasureT-loop
-μ-loop at k d₀ i₀ d i = k - i
+μ-loop kind at k d₀ i₀ d i = k - i
 
 distance-requires : tie.Need-distance-requires Inv-loop μ-loop
 distance-requires c κs = search needs
@@ -40,7 +40,7 @@ loop-again c = (
 returns : tie.Need-returns Inv-loop μ-loop
 returns c =
     let e : c .before .loop .i ≡ c .before .before .before .args .k = omega (arith, c .before .loop .inv .1) in
-    gone-before _ _ _ (rw e at (c .before .loop .inv .0))
+    gone-before _ _ _ _ (rw e at (c .before .loop .inv .0))
 
 pub from-earlier-spec : {M : Type 1} → statement M
 from-earlier-spec =

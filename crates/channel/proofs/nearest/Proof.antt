@@ -8,10 +8,10 @@ use Rattle.channel.proofs.nearest.Statement.{statement}
 use Rattle.channel.proofs.nearest.Tie as tie
 
 abbrev Inv-loop : tie.InvT-loop
-Inv-loop at n d₀ k₀ d k = Gone (nearestBefore at) (k - 1) d × (2 ≤ k) × (k - 2 ≤ n - 2)
+Inv-loop kind at n d₀ k₀ d k = Gone (nearestBefore kind at) (k - 1) d × (2 ≤ k) × (k - 2 ≤ n - 2)
 
 abbrev μ-loop : tie.MeasureT-loop
-μ-loop at n d₀ k₀ d k = n - k
+μ-loop kind at n d₀ k₀ d k = n - k
 
 from-earlier-requires : tie.Need-from-earlier-requires Inv-loop μ-loop
 from-earlier-requires c κs = search needs
@@ -40,7 +40,7 @@ loop-again c =
     )
 
 returns : tie.Need-returns Inv-loop μ-loop
-returns c = let i = c .before .loop .inv in gone-all _ _ _ _ (i .0) (omega (arith, i .1, i .2))
+returns c = let i = c .before .loop .inv in gone-all _ _ _ _ _ (i .0) (omega (arith, i .1, i .2))
 
 pub nearest-spec : {M : Type 1} → statement M
 nearest-spec =

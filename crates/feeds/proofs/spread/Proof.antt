@@ -1,17 +1,23 @@
--- The loop counts up to 24.
-use Prim.Native.Nat.{_≤_, _-_}
+-- The loop counts up to the end of two turns.
 use borrow.Author.Needs.{needs}
+use Prim.Native.Nat.{_≤_, _-_}
 use Rattle.feeds.proofs.spread.Statement.{statement}
 use Rattle.feeds.proofs.spread.Tie as tie
 
 abbrev Inv-loop : tie.InvT-loop
-Inv-loop n seen₀ at₀ t4 t5 t6 t7 t8 seen at = at ≤ 24
+Inv-loop kind n seen₀ end at₀ seen at = end ≤ 104
 
 abbrev μ-loop : tie.MeasureT-loop
-μ-loop n seen₀ at₀ t4 t5 t6 t7 t8 seen at = 24 - at
+μ-loop kind n seen₀ end at₀ seen at = end - at
 
 none-requires : tie.Need-none-requires Inv-loop μ-loop
 none-requires c κs = search needs
+
+branches-requires : tie.Need-branches-requires Inv-loop μ-loop
+branches-requires c κs = search needs
+
+mul-end : tie.Need-mul-end Inv-loop μ-loop
+mul-end c = search needs
 
 loop-holds : tie.Need-loop-holds Inv-loop μ-loop
 loop-holds c = search needs
@@ -28,35 +34,8 @@ loop-less c = search needs
 loop-again : tie.Need-loop-again Inv-loop μ-loop
 loop-again c = search needs
 
-slice-aggregate-number : tie.Need-slice-aggregate-number Inv-loop μ-loop
-slice-aggregate-number c = search needs
-
-number-requires : tie.Need-number-requires Inv-loop μ-loop
-number-requires c κs = search needs
-
-slice-aggregate-number-2 : tie.Need-slice-aggregate-number-2 Inv-loop μ-loop
-slice-aggregate-number-2 c = search needs
-
-number-requires-2 : tie.Need-number-requires-2 Inv-loop μ-loop
-number-requires-2 c κs = search needs
-
-slice-aggregate-number-3 : tie.Need-slice-aggregate-number-3 Inv-loop μ-loop
-slice-aggregate-number-3 c = search needs
-
-number-requires-3 : tie.Need-number-requires-3 Inv-loop μ-loop
-number-requires-3 c κs = search needs
-
-slice-aggregate-number-4 : tie.Need-slice-aggregate-number-4 Inv-loop μ-loop
-slice-aggregate-number-4 c = search needs
-
-number-requires-4 : tie.Need-number-requires-4 Inv-loop μ-loop
-number-requires-4 c κs = search needs
-
-slice-aggregate-write-all : tie.Need-slice-aggregate-write-all Inv-loop μ-loop
-slice-aggregate-write-all c = search needs
-
-write-all-requires : tie.Need-write-all-requires Inv-loop μ-loop
-write-all-requires c κs = search needs
+tell-spread-requires : tie.Need-tell-spread-requires Inv-loop μ-loop
+tell-spread-requires c κs = search needs
 
 returns : tie.Need-returns Inv-loop μ-loop
 returns c = search needs
@@ -68,19 +47,12 @@ spread-spec =
     Inv-loop
     μ-loop
     none-requires
+    branches-requires
+    mul-end
     loop-holds
     burst-requires
     add-at
     loop-less
     loop-again
-    slice-aggregate-number
-    number-requires
-    slice-aggregate-number-2
-    number-requires-2
-    slice-aggregate-number-3
-    number-requires-3
-    slice-aggregate-number-4
-    number-requires-4
-    slice-aggregate-write-all
-    write-all-requires
+    tell-spread-requires
     returns)

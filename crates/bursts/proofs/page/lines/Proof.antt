@@ -5,10 +5,10 @@ use Rattle.bursts.proofs.page.lines.Statement.{statement}
 use Rattle.bursts.proofs.page.lines.Tie as tie
 
 abbrev Inv-loop : tie.InvT-loop
-Inv-loop at n room₀ end₀ i₀ t6 t7 room end i = i ≤ n
+Inv-loop kind at n room₀ end₀ i₀ t6 t7 room end i = i ≤ n
 
 abbrev μ-loop : tie.MeasureT-loop
-μ-loop at n room₀ end₀ i₀ t6 t7 room end i = n - i
+μ-loop kind at n room₀ end₀ i₀ t6 t7 room end i = n - i
 
 loop-holds : tie.Need-loop-holds Inv-loop μ-loop
 loop-holds c = search needs

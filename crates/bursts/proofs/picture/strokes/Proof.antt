@@ -5,10 +5,10 @@ use Rattle.bursts.proofs.picture.strokes.Statement.{statement}
 use Rattle.bursts.proofs.picture.strokes.Tie as tie
 
 abbrev Inv-loop : tie.InvT-loop
-Inv-loop at n room₀ end₀ i₀ t6 t7 t8 room end i = i ≤ n
+Inv-loop kind at n room₀ end₀ i₀ t7 t8 t9 room end i = i ≤ n
 
 abbrev μ-loop : tie.MeasureT-loop
-μ-loop at n room₀ end₀ i₀ t6 t7 t8 room end i = n - i
+μ-loop kind at n room₀ end₀ i₀ t7 t8 t9 room end i = n - i
 
 loop-holds : tie.Need-loop-holds Inv-loop μ-loop
 loop-holds c = search needs
@@ -19,11 +19,11 @@ slice-aggregate-put c = search needs
 put-requires : tie.Need-put-requires Inv-loop μ-loop
 put-requires c κs = search needs
 
-cast-put-number : tie.Need-cast-put-number Inv-loop μ-loop
-cast-put-number c = search needs
+cast-put-units : tie.Need-cast-put-units Inv-loop μ-loop
+cast-put-units c = search needs
 
-put-number-requires : tie.Need-put-number-requires Inv-loop μ-loop
-put-number-requires c κs = search needs
+put-units-requires : tie.Need-put-units-requires Inv-loop μ-loop
+put-units-requires c κs = search needs
 
 slice-aggregate-put-2 : tie.Need-slice-aggregate-put-2 Inv-loop μ-loop
 slice-aggregate-put-2 c = search needs
@@ -34,8 +34,8 @@ put-requires-2 c κs = search needs
 across-requires : tie.Need-across-requires Inv-loop μ-loop
 across-requires c κs = search needs
 
-put-number-requires-2 : tie.Need-put-number-requires-2 Inv-loop μ-loop
-put-number-requires-2 c κs = search needs
+put-units-requires-2 : tie.Need-put-units-requires-2 Inv-loop μ-loop
+put-units-requires-2 c κs = search needs
 
 slice-aggregate-put-3 : tie.Need-slice-aggregate-put-3 Inv-loop μ-loop
 slice-aggregate-put-3 c = search needs
@@ -67,12 +67,12 @@ strokes-spec =
     loop-holds
     slice-aggregate-put
     put-requires
-    cast-put-number
-    put-number-requires
+    cast-put-units
+    put-units-requires
     slice-aggregate-put-2
     put-requires-2
     across-requires
-    put-number-requires-2
+    put-units-requires-2
     slice-aggregate-put-3
     put-requires-3
     add-i

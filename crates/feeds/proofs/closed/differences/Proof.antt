@@ -1,15 +1,15 @@
 -- Every index is in range.
+use borrow.Author.Needs.{needs}
 use Prim.Native.Nat.{_≤_, _-_}
 use lib.ListN.{length}
-use borrow.Author.Needs.{needs}
 use Rattle.feeds.proofs.closed.differences.Statement.{statement}
 use Rattle.feeds.proofs.closed.differences.Tie as tie
 
 abbrev Inv-loop : tie.InvT-loop
-Inv-loop way input out f wrong₀ t₀ wrong t = t ≤ length out
+Inv-loop kind path branch input out f wrong₀ t₀ wrong t = t ≤ length out
 
 abbrev μ-loop : tie.MeasureT-loop
-μ-loop way input out f wrong₀ t₀ wrong t = length out - t
+μ-loop kind path branch input out f wrong₀ t₀ wrong t = length out - t
 
 loop-holds : tie.Need-loop-holds Inv-loop μ-loop
 loop-holds c = search needs

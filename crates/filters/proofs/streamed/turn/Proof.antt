@@ -1,6 +1,6 @@
 -- `filters::streamed::turn`: what was read is a part of its buffer, and so is what is written.
-use mathlib.Core.Path.{sym}
 use lib.Seq.{length-take-le}
+use mathlib.Core.Path.{sym}
 use borrow.Author.Needs.{needs}
 use Rattle.filters.proofs.streamed.turn.Statement.{statement}
 use Rattle.filters.proofs.streamed.turn.Tie as tie
@@ -8,11 +8,17 @@ use Rattle.filters.proofs.streamed.turn.Tie as tie
 read-some-requires : tie.Need-read-some-requires
 read-some-requires c κs = search needs
 
+stopped-requires : tie.Need-stopped-requires
+stopped-requires c κs = search needs
+
 same-length : tie.Need-same-length
 same-length c = search needs
 
 returns : tie.Need-returns
 returns c = search needs
+
+stopped-requires-2 : tie.Need-stopped-requires-2
+stopped-requires-2 c κs = search needs
 
 same-length-2 : tie.Need-same-length-2
 same-length-2 c = search needs
@@ -52,8 +58,10 @@ turn-spec =
     tie.close
     (tie.spec
     read-some-requires
+    stopped-requires
     same-length
     returns
+    stopped-requires-2
     same-length-2
     returns-2
     slice-reshare-prefix-send

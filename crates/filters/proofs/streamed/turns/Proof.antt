@@ -1,15 +1,15 @@
 -- `filters::streamed::turns` ends: a budget counts down.
 use borrow.Author.Needs.{needs}
-use mathlib.Core.Path.{_≡_}
 use lib.ListN.{length}
+use mathlib.Core.Path.{_≡_}
 use Rattle.filters.proofs.streamed.turns.Statement.{statement}
 use Rattle.filters.proofs.streamed.turns.Tie as tie
 
 abbrev Inv-loop : tie.InvT-loop
-Inv-loop way store₀ room₀ out₀ s₀ left₀ store room out s left = (length store ≡ length store₀) × (length room ≡ length room₀) × (length out ≡ length out₀)
+Inv-loop way store₀ room₀ out₀ now₀ left₀ store room out now left = (length store ≡ length store₀) × (length room ≡ length room₀) × (length out ≡ length out₀)
 
 abbrev μ-loop : tie.MeasureT-loop
-μ-loop way store₀ room₀ out₀ s₀ left₀ store room out s left = left
+μ-loop way store₀ room₀ out₀ now₀ left₀ store room out now left = left
 
 loop-holds : tie.Need-loop-holds Inv-loop μ-loop
 loop-holds c = search needs
@@ -20,17 +20,11 @@ sub-left c = search needs
 turn-requires : tie.Need-turn-requires Inv-loop μ-loop
 turn-requires c κs = search needs
 
-enum-known-next : tie.Need-enum-known-next Inv-loop μ-loop
-enum-known-next c = search needs
-
 loop-less : tie.Need-loop-less Inv-loop μ-loop
 loop-less c = search needs
 
 loop-again : tie.Need-loop-again Inv-loop μ-loop
 loop-again c = search needs
-
-enum-told : tie.Need-enum-told Inv-loop μ-loop
-enum-told c = search needs
 
 same-length : tie.Need-same-length Inv-loop μ-loop
 same-length c = search needs
@@ -65,10 +59,8 @@ turns-spec =
     loop-holds
     sub-left
     turn-requires
-    enum-known-next
     loop-less
     loop-again
-    enum-told
     same-length
     same-length-2
     same-length-3

@@ -1,15 +1,15 @@
 -- Every index is in range.
+use borrow.Author.Needs.{needs}
 use Prim.Native.Nat.{_≤_, _-_}
 use lib.ListN.{length}
-use borrow.Author.Needs.{needs}
 use Rattle.feeds.proofs.bursts.Seen.look.Statement.{statement}
 use Rattle.feeds.proofs.bursts.Seen.look.Tie as tie
 
 abbrev Inv-loop : tie.InvT-loop
-Inv-loop at out seen₀ last₀ t₀ seen last t = t ≤ length out
+Inv-loop kind at out seen₀ last₀ t₀ seen last t = t ≤ length out
 
 abbrev μ-loop : tie.MeasureT-loop
-μ-loop at out seen₀ last₀ t₀ seen last t = length out - t
+μ-loop kind at out seen₀ last₀ t₀ seen last t = length out - t
 
 loop-holds : tie.Need-loop-holds Inv-loop μ-loop
 loop-holds c = search needs

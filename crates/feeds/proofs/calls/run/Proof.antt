@@ -1,10 +1,10 @@
 -- The lent buffers keep their lengths.
+use borrow.Author.Needs.{needs}
 use Prim.Native.Nat.{_-_}
 use mathlib.Core.Path.{_≡_}
 use lib.ListN.{length}
-use borrow.Author.Needs.{needs}
-use Rattle.feeds.proofs.run.Statement.{statement}
-use Rattle.feeds.proofs.run.Tie as tie
+use Rattle.feeds.proofs.calls.run.Statement.{statement}
+use Rattle.feeds.proofs.calls.run.Tie as tie
 
 abbrev Inv-loop : tie.InvT-loop
 Inv-loop way from store₀ input out₀ now₀ k₀ store out now k = (length out ≡ length out₀) × (length store ≡ length store₀)
