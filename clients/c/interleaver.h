@@ -1,4 +1,5 @@
-/* Interleavers for C: address lists, whole blocks of bytes and of floats, repeated receptions added up, the DVB byte stream, plan files.
+/* Interleavers for C: address lists, whole blocks of bytes and of floats, repeated receptions added up, byte streams of DVB and ATSC,
+   plan files.
 
        interleaver_set set = interleaver_set_of(INTERLEAVER_WLAN, 4, 192);
        uint8_t in[192], out[192];
@@ -59,12 +60,24 @@ static inline interleaver_set interleaver_set_lte(uint32_t k, uint32_t f1, uint3
     return set;
 }
 
-#define INTERLEAVER_MAX_N 6144u         /* the largest n of any set */
-#define INTERLEAVER_DVB_STORE 1122u     /* bytes of a DVB machine's store */
-#define INTERLEAVER_DVB_PHASES 5654880u /* a phase is below this */
-#define INTERLEAVER_DVB_DELAY 2244u     /* an interleaver and a deinterleaver together are this many bytes late */
-#define INTERLEAVER_PLANS 16u           /* a plan file has 1 to so many plans */
-#define INTERLEAVER_PLAN_BYTES 65536u   /* and at most so many bytes */
+/* The record of a byte stream: a start sets it, each feed moves it on. Ring x, from 1 to branches - 1, has x steps of the store, and the rings lie there
+   in rising size. Branch j of an interleaver has ring j, of a deinterleaver ring branches - 1 - j; ring 0 has no bytes, and passes each at once. */
+typedef struct interleaver_stream {
+    uint32_t kind;       /* see below */
+    uint32_t branch;     /* that of the next byte, below the kind's branches */
+    uint32_t places[51]; /* of ring x at x - 1: where in the ring its next byte goes, below x steps; DVB has 11 rings, and the other 40 places are 0 */
+} interleaver_stream;
+
+#define INTERLEAVER_DVB 1u  /* ETSI EN 300 744: 12 branches, steps of 17 bytes */
+#define INTERLEAVER_ATSC 2u /* ATSC A/53: 52 branches, steps of 4 bytes */
+
+#define INTERLEAVER_MAX_N 6144u       /* the largest n of any set */
+#define INTERLEAVER_DVB_STORE 1122u   /* bytes of a store of kind DVB */
+#define INTERLEAVER_DVB_DELAY 2244u   /* an interleaver and a deinterleaver together are this many bytes late */
+#define INTERLEAVER_ATSC_STORE 5304u  /* the same of kind ATSC */
+#define INTERLEAVER_ATSC_DELAY 10608u
+#define INTERLEAVER_PLANS 16u         /* a plan file has 1 to so many plans */
+#define INTERLEAVER_PLAN_BYTES 65536u /* and at most so many bytes */
 
 /* What a call but interleaver_fitting gives back: INTERLEAVER_DONE, or why it was refused. No call gives 8. */
 #define INTERLEAVER_DONE 0u
@@ -75,15 +88,15 @@ static inline interleaver_set interleaver_set_lte(uint32_t k, uint32_t f1, uint3
 #define INTERLEAVER_INPUT 5u     /* a block's input isn't n long, or its presence bytes aren't */
 #define INTERLEAVER_OUTPUT 6u    /* a block's output isn't n long, or sums or counts aren't, or a feed's output isn't as long as its input, or the buffer
                                     of a plan file isn't as long as the file */
-#define INTERLEAVER_STORE 7u     /* a store isn't 1,122 bytes */
-#define INTERLEAVER_RECORD 9u    /* a cell is past the cell total, or a phase is 5,654,880 or more */
+#define INTERLEAVER_STORE 7u     /* a store isn't as long as its kind asks: 1,122 bytes, or 5,304 */
+#define INTERLEAVER_RECORD 9u    /* a cell is past the cell total, or a byte stream's kind isn't 1 or 2, or its branch or a place is out of its range */
 #define INTERLEAVER_SHARED 10u   /* profile 8: two positions would share an address */
 #define INTERLEAVER_FACTORS 11u  /* profile 8: f1 or f2 is 0, or not below n */
 #define INTERLEAVER_FORM 12u     /* a plan file isn't of the form, or its sets are not 1 to 16, or it would pass 65,536 bytes */
 #define INTERLEAVER_FINITE 13u   /* a present value, a stored sum whose count isn't 0, or the sum of these two isn't finite */
 #define INTERLEAVER_PRESENCE 14u /* a presence byte is above 1 */
 #define INTERLEAVER_COUNT 15u    /* a count would pass 65,535 */
-#define INTERLEAVER_STREAM 16u   /* the stream isn't 1 to 4, or isn't 1 and the profile is neither 6 nor 7 */
+#define INTERLEAVER_STREAM 16u   /* the spatial stream isn't 1 to 4, or isn't 1 and the profile is neither 6 nor 7 */
 
 /* The test of a parameter set. Refusals 1, 2, 3, 16, 11, 10. */
 uint32_t interleaver_test(const interleaver_set *set);
@@ -135,16 +148,17 @@ uint32_t interleaver_add_received(const interleaver_set *set, const float *recei
 uint32_t interleaver_read_sum(const interleaver_set *set, const float *sums, size_t sums_len, const uint16_t *counts, size_t counts_len,
                               uint32_t position, float *sum, uint16_t *count);
 
-/* The DVB byte machine. Its state is a store of INTERLEAVER_DVB_STORE bytes and a phase. A start, of either way, fills the store and sets the
-   phase to 0. Refusal 7. */
-uint32_t interleaver_dvb_start(uint8_t *store, size_t store_len, uint8_t fill, uint32_t *phase);
+/* A byte stream. Its state is a store, as long as its kind asks, and a record. A start, of either way, fills the store, and sets the record to that kind,
+   branch 0 and places of 0. Refusals 9 (the kind), 7. */
+uint32_t interleaver_stream_start(uint32_t kind, uint8_t *store, size_t store_len, uint8_t fill, interleaver_stream *stream);
 
-/* Feeds of any length, as long out as in. Counted from 0 at the start, byte a that a deinterleaver is fed comes out at place a + 204 * (11 - a % 12),
-   so that two different ones less than 12 apart come out at least 203 apart. Refusals 7, 9, 6. */
-uint32_t interleaver_dvb_interleave(uint32_t *phase, uint8_t *store, size_t store_len, const uint8_t *input, size_t input_len, uint8_t *out,
-                                    size_t out_len);
-uint32_t interleaver_dvb_deinterleave(uint32_t *phase, uint8_t *store, size_t store_len, const uint8_t *input, size_t input_len, uint8_t *out,
-                                      size_t out_len);
+/* Feeds of any length, as long out as in. A branch and places inside their ranges are taken as they stand. With b branches and steps of s bytes, counted
+   from 0 at the start, byte a that a deinterleaver is fed comes out at place a + b*s*(b - 1 - a % b), so that two different ones less than b apart come
+   out at least b*s - 1 apart: 203 for DVB, 207 for ATSC. Refusals 9 (the kind), 7, 9 (branch and places), 6. */
+uint32_t interleaver_stream_interleave(interleaver_stream *stream, uint8_t *store, size_t store_len, const uint8_t *input, size_t input_len,
+                                       uint8_t *out, size_t out_len);
+uint32_t interleaver_stream_deinterleave(interleaver_stream *stream, uint8_t *store, size_t store_len, const uint8_t *input, size_t input_len,
+                                         uint8_t *out, size_t out_len);
 
 /* Plan files: lists of addresses, each with its parameter set, that are to be L. A file is the number of plans, 1 to 16; for each plan its profile, its
    bits, its n, the offset of its list from the file's start, and how many addresses the list has; then the lists. The numbers have 4 bytes, the

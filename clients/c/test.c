@@ -124,6 +124,7 @@ int main(void) {
     symbols();
     sums();
     streams();
+    streams_refused();
     plans();
     plans_refused();
     plans_unwritten();

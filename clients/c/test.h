@@ -90,6 +90,22 @@ size_t make_file(uint8_t *file, const uint32_t (*sets)[3], unsigned plans, const
 
 int judged(const uint8_t *file, size_t length, uint32_t plan, uint32_t first, uint32_t wrong); /* whether a plan is judged so */
 
+/* Byte streams: both kinds, by their branches and steps, and what follows from these. */
+enum { KINDS = 2, RINGS = 51, STORE_ROOM = INTERLEAVER_ATSC_STORE };
+extern const struct stream_kind {
+    uint32_t kind, branches, step, store, delay;
+} kinds[KINDS];
+typedef uint32_t feed(interleaver_stream *, uint8_t *, size_t, const uint8_t *, size_t, uint8_t *, size_t);
+extern feed *const ways[2]; /* the interleaver's, the deinterleaver's */
+
+uint32_t size_of(const struct stream_kind *k, uint32_t x); /* the bytes of ring x, and 0 where the kind has no such ring */
+
+/* a record that is accepted, its places in the middle of their rings, for each seed another; and the one that a start sets */
+interleaver_stream stand_at(const struct stream_kind *k, uint32_t branch, uint32_t seed);
+interleaver_stream started(const struct stream_kind *k);
+
+int same_stream(const interleaver_stream *a, const interleaver_stream *b); /* whether two records are the same 53 numbers */
+
 void fitting(void);
 void walks(void);
 void spatial(void);
@@ -101,6 +117,7 @@ void floats(void);
 void symbols(void);
 void sums(void);
 void streams(void);
+void streams_refused(void);
 void plans(void);
 void plans_refused(void);
 void plans_unwritten(void);

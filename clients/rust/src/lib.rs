@@ -31,10 +31,12 @@ pub mod lte;
 pub mod plans;
 mod raw;
 mod refusal;
+mod streams;
 mod sums;
 
+use refusal::answer_with;
 pub use refusal::Refusal;
-use refusal::{answer, answer_with};
+pub use streams::{Atsc, Dvb, Stream};
 pub use sums::Running;
 
 /// A parameter set: a profile (1 IEEE 802.16 OFDM, 2 OFDMA, 3 IEEE 802.11a, 4 bench, 5 WCDMA turbo, 6 IEEE 802.11n at 20 MHz, 7 at 40 MHz, 8 LTE
@@ -161,47 +163,6 @@ impl Walk {
         // SAFETY: the slice is live, and the numbers are this call's own and the walk's.
         self.set.answer(unsafe { call(&self.set, &mut self.cell, out.as_mut_ptr(), out.len(), &mut written, &mut cells) })?;
         Ok(Walked { written: written as usize, cells })
-    }
-}
-
-/// A DVB byte interleaver or deinterleaver, with its own store.
-#[derive(Clone)]
-pub struct Dvb {
-    store: [u8; Dvb::STORE],
-    phase: u32,
-    back: bool,
-}
-
-impl Dvb {
-    /// The bytes of a store.
-    pub const STORE: usize = 1122;
-
-    /// How many bytes late an interleaver and a deinterleaver are together.
-    pub const DELAY: usize = 2244;
-
-    fn start(fill: u8, back: bool) -> Dvb {
-        let mut machine = Dvb { store: [0; Dvb::STORE], phase: 0, back };
-        // SAFETY: the store is live. It has the length that the call asks for, which refuses nothing else.
-        let number = unsafe { raw::interleaver_dvb_start(machine.store.as_mut_ptr(), Dvb::STORE, fill, &mut machine.phase) };
-        debug_assert_eq!(number, 0);
-        machine
-    }
-
-    /// An interleaver whose branches hold `fill`.
-    pub fn interleaver(fill: u8) -> Dvb {
-        Dvb::start(fill, false)
-    }
-
-    /// A deinterleaver whose branches hold `fill`.
-    pub fn deinterleaver(fill: u8) -> Dvb {
-        Dvb::start(fill, true)
-    }
-
-    /// Passes any number of bytes, as many out as in.
-    pub fn feed(&mut self, input: &[u8], out: &mut [u8]) -> Result<(), Refusal> {
-        let call = if self.back { raw::interleaver_dvb_deinterleave } else { raw::interleaver_dvb_interleave };
-        // SAFETY: the slices and the store are live and do not overlap.
-        answer(unsafe { call(&mut self.phase, self.store.as_mut_ptr(), Dvb::STORE, input.as_ptr(), input.len(), out.as_mut_ptr(), out.len()) })
     }
 }
 

@@ -1,5 +1,5 @@
 // The calls of the archive, as clients/c/interleaver.h declares them.
-use super::Set;
+use super::{streams::Record, Set};
 extern "C" {
     pub fn interleaver_test(set: &Set) -> u32;
     pub fn interleaver_fitting(set: &Set) -> u32;
@@ -39,15 +39,23 @@ extern "C" {
     pub fn interleaver_judge_plan(file: *const u8, file_len: usize, plan: u32, first: &mut u32, wrong: &mut u32) -> u32;
     pub fn interleaver_plans_length(sets: *const u32, sets_len: usize, bytes: &mut u32) -> u32;
     pub fn interleaver_write_plans(sets: *const u32, sets_len: usize, out: *mut u8, out_len: usize) -> u32;
-    pub fn interleaver_dvb_start(store: *mut u8, store_len: usize, fill: u8, phase: &mut u32) -> u32;
+    pub fn interleaver_stream_start(kind: u32, store: *mut u8, store_len: usize, fill: u8, stream: &mut Record) -> u32;
 }
 
 // The two feeds, which differ in a name.
 macro_rules! feeds {
     ($($name:ident),*) => {
         extern "C" {
-            $(pub fn $name(phase: &mut u32, store: *mut u8, store_len: usize, input: *const u8, input_len: usize, out: *mut u8, out_len: usize) -> u32;)*
+            $(pub fn $name(
+                stream: &mut Record,
+                store: *mut u8,
+                store_len: usize,
+                input: *const u8,
+                input_len: usize,
+                out: *mut u8,
+                out_len: usize,
+            ) -> u32;)*
         }
     };
 }
-feeds!(interleaver_dvb_interleave, interleaver_dvb_deinterleave);
+feeds!(interleaver_stream_interleave, interleaver_stream_deinterleave);

@@ -53,15 +53,15 @@ refusals! {
     5 Input "a block's input isn't N long, N times the width for symbols, or its presence bytes aren't N"
     6 Output "a block's output isn't N long, N times the width for symbols, or sums or counts aren't N, or a feed's output isn't as long as its input, \
               or a plan file's buffer isn't as long as the file"
-    7 Store "a store isn't 1,122 bytes; never here, since a `Dvb` has its own"
-    9 Record "a walk's cell is past the cell total"
+    7 Store "a store isn't as long as its kind asks; never here, since a `Stream` has its own"
+    9 Record "a walk's cell is past the cell total, or, never here, a byte stream's kind is unknown or its branch or a place is out of its range"
     10 Shared "two positions would share an address, by the factors of profile 8"
     11 Factors "f1 or f2 of profile 8 is 0, or not below N"
     12 Form "a plan file isn't of the form, or its sets aren't 1 to 16, or it would pass 65,536 bytes"
     13 Finite "a present value, a stored sum whose count isn't 0, or the sum of these two isn't finite"
     14 Presence "a presence byte is above 1"
     15 Count "a count would pass 65,535"
-    16 Stream "the stream isn't 1 to 4, or isn't 1 and the profile is neither 6 nor 7"
+    16 Stream "the spatial stream isn't 1 to 4, or isn't 1 and the profile is neither 6 nor 7"
 }
 
 impl std::fmt::Display for Refusal {

@@ -1,12 +1,14 @@
-// Every function of the wrapper over the archive: refusals, slices left alone, the bits of floats and sums, walks and streams cut into parts.
+// Every function of the wrapper over the archive: refusals, slices left alone, the bits of floats and sums, walks cut into parts.
 // spatial.rs has the streams of profiles 6 and 7, factors.rs the factors of profile 8, fitting.rs the size that refusal 3 carries,
-// plans.rs plan files.
+// streams.rs byte streams, plans.rs plan files.
+use super::refusal::answer;
 use super::*;
 
 mod factors;
 mod fitting;
 mod plans;
 mod spatial;
+mod streams;
 
 fn sets() -> impl Iterator<Item = Set> {
     let listed = [(1, 1, 12), (1, 6, 1152), (2, 6, 576), (3, 4, 192), (3, 6, 288), (4, 6, 96), (5, 1, 40), (5, 1, 41), (5, 1, 2281), (5, 1, 5114)];
@@ -221,27 +223,4 @@ fn a_refused_reception_changes_nothing() {
         assert_eq!(set.read_sum(&sums, &counts, n as u32), Err(Refusal::Position));
         assert_eq!([set.read_sum(&sums, &counts[..n], 0), set.read_sum(&sums[..n], &counts, 0)], [Err(Refusal::Output); 2]);
     }
-}
-
-#[test]
-fn a_stream_comes_back_late() {
-    let input: Vec<u8> = (0..30_000u32).map(|i| (i * 31 + i / 251) as u8).collect();
-    let (mut there, mut back) = (Dvb::interleaver(170), Dvb::deinterleaver(170));
-    let (mut sent, mut received) = (vec![0; input.len()], vec![0; input.len()]);
-    for (part, out) in input.chunks(613).zip(sent.chunks_mut(613)) {
-        there.feed(part, out).unwrap();
-    }
-    for (t, &byte) in sent.iter().enumerate() {
-        assert_eq!(byte, t.checked_sub(204 * (t % 12)).map_or(170, |i| input[i]));
-    }
-    for (part, out) in sent.chunks(97).zip(received.chunks_mut(97)) {
-        back.feed(part, out).unwrap();
-    }
-    assert_eq!(received[..Dvb::DELAY], [170; Dvb::DELAY]);
-    assert_eq!(received[Dvb::DELAY..], input[..input.len() - Dvb::DELAY]);
-    let (store, phase, mut out) = (there.store, there.phase, [5; 3]);
-    assert_eq!(there.feed(&[1, 2], &mut out), Err(Refusal::Output));
-    assert_eq!((there.store, there.phase, out), (store, phase, [5; 3]));
-    there.feed(&[], &mut []).unwrap();
-    assert_eq!((there.store, there.phase), (store, phase));
 }

@@ -148,6 +148,6 @@ fn a_stream_is_tested_after_the_size() {
             }
         }
     }
-    let said = "refused with 16: the stream isn't 1 to 4, or isn't 1 and the profile is neither 6 nor 7";
+    let said = "refused with 16: the spatial stream isn't 1 to 4, or isn't 1 and the profile is neither 6 nor 7";
     assert_eq!(listed[2].with_stream(2).test().unwrap_err().to_string(), said);
 }
