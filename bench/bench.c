@@ -12,8 +12,8 @@ add_call interleaver_add_received;
 read_call interleaver_read_sum;
 judge_call interleaver_judge_plan;
 write_call interleaver_write_plans;
-feed_call interleaver_dvb_interleave, interleaver_dvb_deinterleave;
-uint32_t interleaver_dvb_start(uint8_t *store, size_t, uint8_t fill, uint32_t *phase);
+feed_call interleaver_stream_interleave, interleaver_stream_deinterleave;
+uint32_t interleaver_stream_start(uint32_t kind, uint8_t *store, size_t, uint8_t fill, uint32_t *record);
 
 static walk_call *const walks[][SIDES] = {
     [WALK] = {interleaver_walk_l, divide_walk, step_walk},
@@ -30,8 +30,16 @@ static move_call *const moves[][SIDES] = {
     [LTE_SOFT] = {interleaver_interleave_soft, divide_lte_soft, step_lte_soft},
 };
 static feed_call *const feeds[][SIDES] = {
-    [FEED] = {interleaver_dvb_interleave, divide_interleave, step_interleave},
-    [FEED_BACK] = {interleaver_dvb_deinterleave, divide_deinterleave, step_deinterleave},
+    [DVB] = {interleaver_stream_interleave, divide_dvb, step_dvb},
+    [DVB_BACK] = {interleaver_stream_deinterleave, divide_dvb_back, step_dvb_back},
+    [ATSC] = {interleaver_stream_interleave, divide_atsc, step_atsc},
+    [ATSC_BACK] = {interleaver_stream_deinterleave, divide_atsc_back, step_atsc_back},
+};
+static const struct stream streams[] = {
+    [DVB] = {1, 12, 17, 1122, 0},
+    [DVB_BACK] = {1, 12, 17, 1122, 1},
+    [ATSC] = {2, 52, 4, 5304, 0},
+    [ATSC_BACK] = {2, 52, 4, 5304, 1},
 };
 
 static add_call *const adds[SIDES] = {interleaver_add_received, divide_add, step_add};
@@ -63,9 +71,12 @@ static uint32_t write_set(write_call *write, const struct set *set, struct area 
     return write(numbers, 3, a->bytes, 24 + 2 * set->n);
 }
 
+const struct stream *stream_of(const struct row *r) { return r->kind >= DVB && r->kind <= ATSC_BACK ? streams + r->kind : 0; }
+
 void start(const struct row *r, int side)
 {
     struct area *a = areas + side;
+    const struct stream *stream = stream_of(r);
     a->turn = 0;
     if (r->kind >= ADD)
         for (uint32_t k = 0; k < sets[r->from].n; k++)
@@ -74,12 +85,14 @@ void start(const struct row *r, int side)
         write_set(divide_write, sets + r->from, a);
         a->plan = 1, a->length = 24 + 2 * sets[r->from].n;
     }
-    memset(a->store, 7, STORE);
-    a->record[0] = 0;
+    if (stream == 0)
+        return;
+    memset(a->store, 7, stream->store);
+    a->record[0] = a->record[1] = 0;
     if (side == STEP)
-        step_start(a->record, r->kind == FEED_BACK);
+        step_start(a->record, stream->branches, stream->step, stream->back);
     if (side == OURS)
-        interleaver_dvb_start(a->store, STORE, 7, a->record);
+        interleaver_stream_start(stream->number, a->store, stream->store, 7, a->record);
 }
 
 static uint32_t walk_set(const struct row *r, walk_call *walk, const struct set *set, struct area *a)
@@ -115,8 +128,8 @@ static uint32_t read_set(int side, const struct set *set, struct area *a)
 uint32_t once(const struct row *r, int side)
 {
     struct area *a = areas + side;
-    if (r->kind == FEED || r->kind == FEED_BACK)
-        return feeds[r->kind][side](a->record, a->store, STORE, input, r->length, a->bytes, r->length);
+    if (stream_of(r) != 0)
+        return feeds[r->kind][side](a->record, a->store, streams[r->kind].store, input, r->length, a->bytes, r->length);
     uint32_t refused = 0;
     for (const struct set *s = sets + r->from; s < sets + r->from + r->sets && refused == 0; s++) {
         if (r->kind <= LTE)
@@ -138,7 +151,7 @@ uint32_t once(const struct row *r, int side)
 /* How many addresses, bytes, values or positions that makes; calls where there is no room. */
 static uint32_t amount(const struct row *r)
 {
-    uint32_t sum = r->kind == FEED || r->kind == FEED_BACK ? r->length : 0;
+    uint32_t sum = stream_of(r) != 0 ? r->length : 0;
     for (uint32_t i = 0; i < r->sets; i++)
         sum += r->length == NO_ROOM ? 1 : sets[r->from + i].n;
     return sum;

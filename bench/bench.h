@@ -4,8 +4,8 @@
 #include "plain.h"
 
 enum { OURS, DIVIDE, STEP, SIDES };
-enum kind { WALK, WRITTEN_OUT, SPATIAL, SPATIAL_M, LTE, BYTES, SOFT, SPATIAL_BYTES, LTE_BYTES, LTE_SOFT, FEED, FEED_BACK, JUDGE, WRITE, ADD, ADD_SOME,
-            READ };
+enum kind { WALK, WRITTEN_OUT, SPATIAL, SPATIAL_M, LTE, BYTES, SOFT, SPATIAL_BYTES, LTE_BYTES, LTE_SOFT, DVB, DVB_BACK, ATSC, ATSC_BACK, JUDGE, WRITE,
+            ADD, ADD_SOME, READ };
 extern read_call *const reads[SIDES];
 
 /* A row: some sets in a row from the list of sets, the room of a walk (0: a whole block; NO_ROOM: none), or the length of a feed. */
@@ -17,6 +17,10 @@ extern struct row rows[96];
 /* Lays them out. The rows from `shown` on are compared, and are not in the table. */
 extern uint32_t row_count, shown;
 void lay_out(void);
+
+/* A row's byte stream: the number and the sizes of its kind, and whether it goes back. A null pointer where the row has none. */
+struct stream { uint32_t number, branches, step, store; int back; };
+const struct stream *stream_of(const struct row *);
 
 /* What a side writes to. The input is the same for all. */
 enum { LIST = 8192, BYTE = 65536, MOST = 5114 };

@@ -140,6 +140,17 @@ static int check_judge(const struct row *r)
     return wrong || unlike(r, 1);
 }
 
+/* Our record beside the stepping C's: the kind, the branch of its ring, and each ring's place without where the ring begins; 0 behind them. */
+static int check_record(const struct row *r)
+{
+    const struct stream *s = stream_of(r);
+    const uint32_t *ours = areas[OURS].record, *step = areas[STEP].record;
+    uint32_t branch = s->back ? s->branches - 1 - step[0] : step[0], same = ours[0] == s->number && ours[1] == branch;
+    for (uint32_t x = 1; x < RECORD - 1; x++)
+        same = same && ours[x + 1] == (x < s->branches ? step[x] - s->step * x * (x - 1) / 2 : 0);
+    return same ? 0 : (printf("bench: %s: our record is not where the stepping C's is\n", r->name), 1);
+}
+
 /* Each set of a row by itself, and of a stream a few short feeds first, so that a feed begins in the middle. */
 int check(const struct row *whole)
 {
@@ -159,7 +170,7 @@ int check(const struct row *whole)
         if (r.kind == JUDGE)
             for (int side = 0; side < SIDES; side++)
                 start(&r, side);
-        if (r.kind == JUDGE ? check_judge(&r) : unlike(&r, 0))
+        if (r.kind == JUDGE ? check_judge(&r) : unlike(&r, 0) || (stream_of(&r) != 0 && check_record(&r)))
             return 1;
     }
     return whole->kind == READ ? check_read(whole) : whole->kind >= ADD ? check_add(whole) : 0;

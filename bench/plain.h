@@ -61,10 +61,11 @@ judge_call divide_judge, step_judge;
 typedef uint32_t write_call(const uint32_t *sets, size_t, uint8_t *out, size_t);
 write_call divide_write, step_write;
 
-/* A DVB feed. What the record holds is each side's own: the phase, or for `step_` the ring to come and a place for each ring. */
-enum { STORE = 1122, RECORD = 12 };
+/* A feed of a byte stream, of either kind, by the interleaver or back. What the record holds is each side's own: ours its 53 numbers, `divide_` a count of
+   bytes in two numbers, from 0, `step_` the ring to come and a place for each ring. */
+enum { STORE = 5304, RECORD = 53 };
 typedef uint32_t feed_call(uint32_t *record, uint8_t *store, size_t, const uint8_t *in, size_t, uint8_t *out, size_t);
-feed_call divide_interleave, divide_deinterleave, step_interleave, step_deinterleave;
-void step_start(uint32_t *record, int back);
+feed_call divide_dvb, divide_dvb_back, divide_atsc, divide_atsc_back, step_dvb, step_dvb_back, step_atsc, step_atsc_back;
+void step_start(uint32_t *record, uint32_t branches, uint32_t step, int back);
 
 #endif

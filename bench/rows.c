@@ -51,9 +51,11 @@ void lay_out(void)
     static const uint32_t blocks[] = {WLAN_1_48, WLAN_6_288, OFDM_6_1152, TURBO_40, TURBO_5114};
     for (int i = 0; i < 10; i++)
         add_row(i < 5 ? BYTES : SOFT, blocks[i % 5], 1, 0, i < 5 ? "interleave bytes" : "interleave f32", "");
-    for (int i = 0; i < 4; i++)
-        add_row(i < 2 ? FEED : FEED_BACK, 0, 0, i % 2 == 0 ? 204 : 65280, i < 2 ? "DVB interleaver" : "DVB deinterleaver",
-                i % 2 == 0 ? ", feeds of 204" : ", feeds of 65280");
+    static const char *const streams[] = {"DVB interleaver", "DVB deinterleaver", "ATSC interleaver", "ATSC deinterleaver"};
+    for (int i = 0; i < 4; i++) {
+        add_row(DVB + i, 0, 0, i < 2 ? 204 : 207, streams[i], i < 2 ? ", feeds of 204" : ", feeds of 207");
+        add_row(DVB + i, 0, 0, i < 2 ? 65280 : 65520, streams[i], i < 2 ? ", feeds of 65280" : ", feeds of 65520");
+    }
     add_row(ADD, OFDM_6_1152, 1, 0, "add", "");
     add_row(ADD_SOME, OFDM_6_1152, 1, 0, "add", ", a fifth blank");
     add_row(ADD, WLAN_6_288, 1, 0, "add", "");
