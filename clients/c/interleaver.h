@@ -96,7 +96,7 @@ typedef struct interleaver_stream {
 #define INTERLEAVER_FINITE 13u   /* a present value, a stored sum whose count isn't 0, or the sum of these two isn't finite */
 #define INTERLEAVER_PRESENCE 14u /* a presence byte is above 1 */
 #define INTERLEAVER_COUNT 15u    /* a count would pass 65,535 */
-#define INTERLEAVER_STREAM 16u   /* the spatial stream isn't 1 to 4, or isn't 1 and the profile is neither 6 nor 7 */
+#define INTERLEAVER_STREAM 16u   /* a set's spatial stream (no byte stream) isn't 1 to 4, or isn't 1 and the profile is neither 6 nor 7 */
 
 /* The test of a parameter set. Refusals 1, 2, 3, 16, 11, 10. */
 uint32_t interleaver_test(const interleaver_set *set);

@@ -1,6 +1,6 @@
 // A burst as an SVG: above the channel with the burst in it, below the deinterleaver's output, and a stroke for each byte from the one to the other.
-// Across are bytes, from the burst's first on, and fifths of them where the kind is ATSC, so that the pictures of both kinds have one width. A stroke
-// is wider than a byte.
+// Across are bytes, from the burst's first on: a unit is one byte, and five where the kind is ATSC, so that the pictures of both kinds have one width. A
+// stroke is wider than a byte.
 use super::least;
 use super::limited;
 use kinds::Stream;

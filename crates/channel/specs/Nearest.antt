@@ -13,17 +13,17 @@ use Rattle.kinds.specs.Kinds.{sizesOf, sound, Sized, placeIn}
 
 -- how many places behind its own number channel byte a comes out
 abbrev pub delayOf : ℕ → ℕ → ℕ
-delayOf kind a = sizesOf kind .step * sizesOf kind .branches * (sizesOf kind .branches - 1 - a % sizesOf kind .branches)
+delayOf kind a = sizesOf kind .branches * sizesOf kind .step * (sizesOf kind .branches - 1 - a % sizesOf kind .branches)
 
 -- by the kind's numbers, which are small
 module _ {kind : ℕ} {z : Sizes} (e : Sized kind z) where
-  pub turn-low : z .step * z .branches ≤ 17 * 52
-  turn-low = mul-le-mul (e .short) (e .few)
+  pub turn-low : z .branches * z .step ≤ 52 * 17
+  turn-low = mul-le-mul (e .few) (e .short)
 
-  pub delay-low : (a : ℕ) → z .step * z .branches * (z .branches - 1 - a % z .branches) ≤ 17 * 52 * 51
+  pub delay-low : (a : ℕ) → z .branches * z .step * (z .branches - 1 - a % z .branches) ≤ 52 * 17 * 51
   delay-low a = mul-le-mul {m₂ = 51} turn-low (omega (arith, e .few))
 
-  pub delay-is : (a : ℕ) → z .step * z .branches * (z .branches - 1 - a % z .branches) ≡ delayOf kind a
+  pub delay-is : (a : ℕ) → z .branches * z .step * (z .branches - 1 - a % z .branches) ≡ delayOf kind a
   delay-is a = rw (e .branches, e .step)
 
 -- how far apart bytes i and k come out

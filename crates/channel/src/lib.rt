@@ -13,7 +13,7 @@ fn delay(kind: u32, a: u64) -> u64
     let z = Sizes::of(kind);
     let branches = z.branches as u64;
     let step = z.step as u64;
-    step * branches * (branches - 1 - a % branches)
+    branches * step * (branches - 1 - a % branches)
 }
 
 // Where byte i comes out.

@@ -38,12 +38,9 @@ module _ {A : Type 0} (f : A) where
     pub nowhere-else : (w : ℕ) → w < length ys → getD ys w f ≡ x → w ≡ u
 
 module _ (b s : ℕ) (hb : 0 < b) (hs : 0 < s) where
-  comes-is : (a : ℕ) → comesAt b s a ≡ a + b * s * (b - 1 - a % b)
-  unfolding comesAt
-  comes-is a = rw (mul-comm s b)
-
   pub comes-behind : (a : ℕ) → a ≤ comesAt b s a
-  comes-behind a = rw (comes-is a) (omega arith)
+  unfolding comesAt
+  comes-behind a = omega arith
 
   -- ---- of a deinterleaver at branch 0, whatever its places
 
@@ -56,8 +53,8 @@ module _ (b s : ℕ) (hb : 0 < b) (hs : 0 < s) where
 
     -- the place is the byte's own number and its delay ..
     comes-late : (a : ℕ) → comesAt b s a ≡ a + delay a
-    unfolding delayAt ringAt
-    comes-late a = comes-is a ∙ rw (at-first, zero-add a)
+    unfolding comesAt delayAt ringAt
+    comes-late a = rw (at-first, zero-add a)
 
     -- .. which is the delay at that place, too ..
     its-delay : (a : ℕ) → comesAt b s a ≡ a + delay (comesAt b s a)
@@ -126,7 +123,8 @@ module _ (b s : ℕ) (hb : 0 < b) (hs : 0 < s) where
       ap (λ (n : ℕ). n % b) e ∙ digits-mod (a / b) l
 
   near : (a d : ℕ) → suc d < b → spreadOf b s ≤ distance (comesAt b s a) (comesAt b s (a + suc d))
-  near a d h = rw (comes-is a, comes-is (a + suc d)) (go (decLt (a % b + suc d) b))
+  unfolding comesAt
+  near a d h = go (decLt (a % b + suc d) b)
     where
       go : Dec (a % b + suc d < b) → spreadOf b s ≤ distance (a + b * s * (b - 1 - a % b)) (a + suc d + b * s * (b - 1 - (a + suc d) % b))
       go (yes l) =
@@ -153,11 +151,11 @@ module _ (b s : ℕ) (hb : 0 < b) (hs : 0 < s) where
 
   -- .. and each two neighbours of one turn just so far
   pub reached : (a : ℕ) → a % b + 1 < b → distance (comesAt b s a) (comesAt b s (a + 1)) ≡ spreadOf b s
-  unfolding spreadOf
+  unfolding comesAt spreadOf
   reached a l =
       let e : b - 1 - a % b ≡ suc (b - 1 - (a + 1) % b) = omega (arith, same-turn a 1 l, l) in
       let p : b * s * (b - 1 - a % b) ≡ b * s * (b - 1 - (a + 1) % b) + b * s = ap (λ (n : ℕ). b * s * n) e ∙ mul-suc (b * s) (b - 1 - (a + 1) % b) in
-      rw (comes-is a, comes-is (a + 1)) (omega (arith, p, mul-pos hb hs))
+      omega (arith, p, mul-pos hb hs)
 
   -- bytes as far apart as there are branches come out just as far apart
   pub turn-later : (a : ℕ) → comesAt b s (a + b) ≡ comesAt b s a + b

@@ -29,6 +29,10 @@ abbrev pub ringOf : Way → ℕ → ℕ → ℕ
 ringOf Interleaver branches j = j
 ringOf Deinterleaver branches j = branches - 1 - j
 
+-- and so the branch of ring x is counted as the ring of a branch is, from one end or from both
+abbrev pub branchOf : Way → ℕ → ℕ → ℕ
+branchOf way branches x = ringOf way branches x
+
 -- the queue of step·x bytes is a ring in the store, at offset step·x·(x - 1)/2
 unfoldable pub offset : ℕ → ℕ → ℕ
 offset step x = step * x * (x - 1) / 2
@@ -95,7 +99,7 @@ module _ {A R : Type 0} (next : R → R) where
 
 -- channel byte a comes out of a started deinterleaver at this place
 unfoldable pub comesAt : ℕ → ℕ → ℕ → ℕ
-comesAt branches step a = a + step * branches * (branches - 1 - a % branches)
+comesAt branches step a = a + branches * step * (branches - 1 - a % branches)
 
 -- two different bytes that are fewer places apart than there are branches come out at least this many places apart
 unfoldable pub spreadOf : ℕ → ℕ → ℕ

@@ -49,17 +49,12 @@ module _ {M : Machine} {R : Stand} {store₀ input : List ℕ} where
   }
 
   module _ {store out places : List ℕ} {first x : ℕ} (w : Within M R) (g : Served M R store₀ input store out places first x) where
-    -- the next ring's place is still where the machine stood
-    pub place-now : x < M .branches → getD places (x - 1) 0 < M .step * x
-    place-now h = rw (g .still (x - 1) (omega arith)) (w .places x (g .some) h)
-
-    -- and so its first byte, byte k, goes there
-    pub row-now : {k : ℕ} → Leads M R x k → first + getD places (x - 1) 0 ≡ first + rowAt M R k
+    -- the first byte of the next ring, byte k, goes where the machine stood
+    pub row-now : {k : ℕ} → Leads M R x k → first + placeOf R x ≡ first + rowAt M R k
     unfolding rowAt
     row-now {k} l =
         let few : x < M .branches = rw (l .here) at (ring-few M R k) in
-        ap (λ (n : ℕ). first + n) (g .still (x - 1) (omega arith)
-        ∙ sym (rw (l .here, div-eq-of-lt (l .few), add-zero (placeOf R x)) (mod-eq-of-lt (w .places x (g .some) few))))
+        ap (λ (n : ℕ). first + n) (sym (rw (l .here, div-eq-of-lt (l .few), add-zero (placeOf R x)) (mod-eq-of-lt (w .places x (g .some) few))))
 
     pub served-more : {store′ out′ : List ℕ} {v : ℕ} → x < M .branches → Lane M R x store input out store′ out′ (length input) → Next M R x (length input) v
         → Served M R store₀ input store′ out′ (set places (x - 1) v) (first + M .step * x) (x + 1)

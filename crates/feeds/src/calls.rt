@@ -86,15 +86,33 @@ fn refused(k: usize, s: Stream, store: &mut [u8], input: &[u8], out: &mut [u8]) 
     streams::feed(way, record, store, &input[..less], out)
 }
 
-// The record after it: a refused call hands its own back as it came.
+// The record after it: a refused call hands its own back as it came, and what was wrong with it is put right.
 fn kept(k: usize, handed: Stream, s: Stream) -> Stream {
-    if k % 5 == 0 {
-        return handed;
+    let mut places = handed.places;
+    let own = s.places;
+    let x = k / 5 % 51;
+    if k % 5 == 3 {
+        places[x] = own[x];
     }
-    if k % 5 == 4 {
-        return handed;
+    if k % 5 == 1 {
+        return Stream {
+            kind: s.kind,
+            branch: handed.branch,
+            places,
+        };
     }
-    s
+    if k % 5 == 2 {
+        return Stream {
+            kind: handed.kind,
+            branch: s.branch,
+            places,
+        };
+    }
+    Stream {
+        kind: handed.kind,
+        branch: handed.branch,
+        places,
+    }
 }
 
 // A machine part way: its record, how many bytes it took, and its tally.

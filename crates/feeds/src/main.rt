@@ -1,5 +1,5 @@
 // Feeds 40,000 bytes through the interleaver of each kind, and what comes out through a deinterleaver, cut raggedly and with refused calls between:
-// the longest ring turns three times, and every other more often. Every byte is compared with the closed form, which divides and shares nothing with
+// every ring turns three times or more. Every byte is compared with the closed form, which divides and shares nothing with
 // the feed. Once from a start, and once from a record in the middle, with a filled store. Then bursts in the channel of a deinterleaver, from each
 // byte of two turns on: each byte is looked for in what comes out, and its place compared with where its queue lets it out.
 mod bursts; // bursts.rt: bursts, and where they are found again

@@ -74,6 +74,7 @@ fn started(way: Way, kind: u32, fill: u8, store: &mut [u8]) {
 // The same, with the store in the first bytes of a room, which has as many as any kind takes.
 fn in_room(way: Way, kind: u32, fill: u8, room: &mut [u8]) {
     let n = Sizes::of(kind).store;
+    // (never so)
     if n > room.len() {
         return;
     }

@@ -1,9 +1,11 @@
 -- An answer, flattened for C: numbers in a row are a parameter set, one number is the answer, and the rest goes through out-parameters. These are
--- definitions.
-use Prim.Native.Nat.{ℕ, _+_, _*_}
+-- definitions, and that a record comes back.
+use Prim.Native.Nat.{ℕ, suc, _+_, _*_}
 use mathlib.Core.List.{List, [], _∷_}
+use mathlib.Core.Path.{_≡_, sym, ap, _∙_}
+use native.Mathlib.Omega.{arith}
 use lib.ListN.{length, getD}
-use Rattle.laws.specs.Run.{run}
+use Rattle.laws.specs.Run.{run, run-same, run-getD}
 use Rattle.laws.specs.declared.Way.{Way}
 use Rattle.laws.specs.Outcome.{Outcome, done, refused, partOr}
 use Rattle.sets.specs.declared.Factors.{Factors}
@@ -40,6 +42,15 @@ streamOf l = record { kind = getD l 0 0; branch = getD l 1 0; places = run (λ i
 -- .. and as C has it
 abbrev pub streamList : Stream → List ℕ
 streamList s = s .kind ∷ s .branch ∷ s .places
+
+-- a record that C has been handed and lends again is that record
+pub lent-again : (s : Stream) → length (s .places) ≡ 51 → streamOf (streamList s) ≡ s
+unfolding streamOf
+lent-again s l =
+    let behind : run (λ i. getD (streamList s) (i + 2) 0) 0 51 ≡ s .places =
+    run-same (λ i. getD (streamList s) (i + 2) 0) (λ i. getD (s .places) i 0) 0 51 (λ i h. let e : i + 2 ≡ suc (suc i) = omega arith in rw e)
+    ∙ ap (λ (n : ℕ). run (λ i. getD (s .places) i 0) 0 n) (sym l) ∙ run-getD (s .places) 0 in
+    ap (λ (ps : List ℕ). record { kind = s .kind; branch = s .branch; places = ps }) behind
 
 -- what the calls that are served have to say, of what C lends: a walk into a slice ..
 abbrev pub lentWalk : Way → List ℕ → ℕ → List ℕ → Outcome Refusal Values

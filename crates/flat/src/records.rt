@@ -13,9 +13,9 @@ pub const STREAM: usize = 53;
 pub fn record_of(stream: &[u32; STREAM]) -> Stream
     ensures { λ r. ⌜ r ≡ streamOf (now (stream .entry)) ⌝ }
 {
-    let mut places = [0u32; 51];
+    let mut places = [0u32; Stream::RINGS];
     let mut i = 0;
-    while i < 51 {
+    while i < Stream::RINGS {
         places[i] = stream[i + 2];
         i += 1;
     }
@@ -35,7 +35,7 @@ fn numbers_of(s: Stream) -> [u32; STREAM]
     row[0] = s.kind;
     row[1] = s.branch;
     let mut i = 0;
-    while i < 51 {
+    while i < Stream::RINGS {
         row[i + 2] = places[i];
         i += 1;
     }

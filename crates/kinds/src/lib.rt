@@ -5,7 +5,7 @@ use laws::Way;
 use sizes::Sizes;
 ghost use mathlib.Core.Path.{_≡_};
 ghost use Prim.Native.Nat.{_+_, _-_, _*_, _%_, _≤_, _<_};
-ghost use lib.ListN.{length};
+ghost use lib.ListN.{length, getD};
 ghost use Rattle.delay.specs.Lane.{Leads};
 ghost use Rattle.kinds.specs.Kinds.{belowFrom, sizesOf, machineOf, standOf, inRange, startRecord};
 
@@ -42,7 +42,7 @@ impl Stream {
         Stream {
             kind,
             branch: 0,
-            places: [0u32; 51],
+            places: [0u32; Self::RINGS],
         }
     }
 
@@ -76,8 +76,16 @@ impl Stream {
         }
     }
 
+    // The slot of ring x's next byte, in the ring, by a record's places. (These are lent: a record by value would be copied for each ring.)
+    pub fn slot(places: &[u32; 51], x: usize) -> u32
+        requires { ⌜ (0 < x) × (x ≤ 51) ⌝ }
+        ensures { λ r. ⌜ r ≡ getD (now (places .entry)) (x - 1) 0 ⌝ }
+    {
+        places[x - 1]
+    }
+
     // The branch when whole turns and rest bytes more have passed.
-    pub fn moved(self, rest: usize) -> u32
+    pub fn branch_after(self, rest: usize) -> u32
         requires { ⌜ (rest < sizesOf (self .kind) .branches) × (self .branch < sizesOf (self .kind) .branches) ⌝ }
         ensures { λ r. ⌜ r ≡ (self .branch + rest) % sizesOf (self .kind) .branches ⌝ }
     {

@@ -96,8 +96,10 @@ pub fn turn(
     input: &[u8],
     out: &mut [u8],
 ) -> usize
-    requires { ⌜ (branches < 65536) × (first ≤ at) × (at < last) × (last ≤ length (now store)) × (length (now out) ≡ length (now input)) × Left branches (length (now input) - from) count ⌝ }
-    ensures { λ r. ⌜ Turned branches first last from at (now (store .entry)) (now (input .entry)) (now (out .entry)) (now (store .exit)) (now (out .exit)) r ⌝ }
+    requires { ⌜ (branches < 65536) × (first ≤ at) × (at < last) × (last ≤ length (now store)) × (length (now out) ≡ length (now input))
+        × Left branches (length (now input) - from) count ⌝ }
+    ensures { λ r. ⌜ Turned branches first last from at (now (store .entry)) (now (input .entry)) (now (out .entry))
+        (now (store .exit)) (now (out .exit)) r ⌝ }
 {
     let mut i = from;
     let mut place = at;

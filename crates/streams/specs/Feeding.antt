@@ -1,18 +1,18 @@
 -- A feed's set-up and its loop over the rings, from a record in its ranges.
 use Prim.Native.Nat.{ℕ, _+_, _-_, _*_, _/_, _%_, _≤_, _<_}
-use mathlib.Core.Path.{_≡_, sym, ap₂, _∙_}
+use mathlib.Core.Path.{_≡_, sym, ap, ap₂, _∙_}
 use mathlib.Core.List.{List}
 use native.Mathlib.Nat.{add-mod-mod, mul-one, mul-suc}
 use native.Mathlib.Numerals.{add-one}
 use native.Mathlib.Omega.{arith}
 use lib.ListN.{length, getD, set}
 use Rattle.laws.specs.declared.Way.{Way}
-use Rattle.delay.specs.Machine.{nextOf, runRecord}
+use Rattle.delay.specs.Machine.{placeOf, nextOf, runRecord}
 use Rattle.delay.specs.Slots.{offset-end}
 use Rattle.delay.specs.Standing.{Within, stands-after}
 use Rattle.delay.specs.Lane.{Leads, Ring, Left, countOf, Turned, Passed}
 use Rattle.delay.specs.Loops.{left-all}
-use Rattle.delay.specs.Served.{Served, served-none, place-now, row-now, served-more, served-all}
+use Rattle.delay.specs.Served.{Served, served-none, row-now, served-more, served-all}
 use Rattle.kinds.specs.declared.Stream.{Stream}
 use Rattle.kinds.specs.declared.sizes.Sizes.{Sizes}
 use Rattle.kinds.specs.Kinds.{sizesOf, sound, Sized, machineOf, standOf}
@@ -49,9 +49,13 @@ module _ {way : Way} {s : Stream} {z : Sizes} {store₀ input store out places :
     pub ring-short : size ≤ 204
     ring-short = rw (g .ring) (sound (s .kind) .ring x ring-here)
 
-    -- its place, and all of it, lie in the store
-    pub place-short : getD places (x - 1) 0 < size
-    place-short = rw (g .ring) (place-now (g .within) (g .served) ring-here)
+    -- its place is still the record's
+    pub slot-kept : getD places (x - 1) 0 ≡ placeOf (standOf s) x
+    slot-kept = g .served .still (x - 1) (omega (arith, g .served .some))
+
+    -- its slot, and all of it, lie in the store
+    pub slot-short : {n : ℕ} → n ≡ placeOf (standOf s) x → n < size
+    slot-short e = rw (e, g .ring) (g .within .places x (g .served .some) ring-here)
 
     pub ring-fits : first + size ≤ length store
     ring-fits =
@@ -64,14 +68,14 @@ module _ {way : Way} {s : Stream} {z : Sizes} {store₀ input store out places :
     ring-count {k} l e = rw e (left-all (z .branches) (length input) k (omega (arith, l .few, g .sized .branches)))
 
     -- .. and is done next
-    pub serving-next : {store′ out′ : List ℕ} {k next : ℕ} → Leads (machineOf way (s .kind)) (standOf s) x k
-        → Turned (z .branches) first (first + size) k (first + getD places (x - 1) 0) store input out store′ out′ next
+    pub serving-next : {store′ out′ : List ℕ} {k n next : ℕ} → Leads (machineOf way (s .kind)) (standOf s) x k → n ≡ placeOf (standOf s) x
+        → Turned (z .branches) first (first + size) k (first + n) store input out store′ out′ next
         → Serving way s z store₀ input store′ out′ (set places (x - 1) (next - first)) (first + size) (size + z .step) (x + 1)
-    serving-next {store′} {out′} {k} {next} l t =
+    serving-next {store′} {out′} {k} {n = slot} {next} l e t =
         let n = sound (s .kind) in
         let r = g .served in
         let ring : Ring (machineOf way (s .kind)) x first (first + size) = record { some = r .some; few = ring-here; begins = r .begins; ends = rw (g .ring) } in
-        let did = (rw (g .sized .branches) at t) .lane way (sizesOf (s .kind) .step) (n .some-branches) (n .some-step) (standOf s) x ring (r .rings .long) l (row-now (g .within) r l) in
+        let did = (rw (g .sized .branches) at t) .lane way (sizesOf (s .kind) .step) (n .some-branches) (n .some-step) (standOf s) x ring (r .rings .long) l (ap (λ (m : ℕ). first + m) e ∙ row-now (g .within) r l) in
         record {
           within = g .within;
           sized = g .sized;

@@ -9,7 +9,7 @@ use borrow.Author.Tests.{eq-eqb, not-false}
 use Rattle.laws.specs.Outcome.{done, done-clear}
 use Rattle.laws.specs.declared.Way.{Way}
 use Rattle.laws.specs.declared.Way.the-variants.{Interleaver}
-use Rattle.delay.specs.Machine.{ringOf, slotOf, nextOf, startStand, runOutput, runStore, runRecord}
+use Rattle.delay.specs.Machine.{branchOf, slotOf, nextOf, startStand, runOutput, runStore, runRecord}
 use Rattle.delay.specs.Cuts.{length-store}
 use Rattle.delay.specs.Lane.{countOf}
 use Rattle.delay.specs.Started.{branch-since, place-since}
@@ -106,7 +106,7 @@ pub record Stood (way : Way) (k n : ℕ) (s : Stream) : Type 0 where
   pub branch : s .branch ≡ n % sizesOf k .branches
   pub long : length (s .places) ≡ 51
   pub places : (x : ℕ) → 0 < x → x < sizesOf k .branches
-      → getD (s .places) (x - 1) 0 ≡ countOf (n / sizesOf k .branches) (n % sizesOf k .branches) (ringOf way (sizesOf k .branches) x) % (sizesOf k .step * x)
+      → getD (s .places) (x - 1) 0 ≡ countOf (n / sizesOf k .branches) (n % sizesOf k .branches) (branchOf way (sizesOf k .branches) x) % (sizesOf k .step * x)
   pub lacks : (j : ℕ) → j < 51 → sizesOf k .branches ≤ suc j → getD (s .places) j 0 ≡ 0
 
 start-long : length (startStand 51 .places) ≡ 51

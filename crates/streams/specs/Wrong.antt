@@ -48,10 +48,10 @@ early-differs = (refl, refl, refl)
 abbrev pub third : Stream
 third = record { kind = 1; branch = 1; places = 3 ∷ replicate 50 0 }
 
-pub taken-as-it-stands : (getD (fedStore Interleaver third (startStore 1 9) second-byte) 3 0 ≡ 2)
+pub place-3-taken : (getD (fedStore Interleaver third (startStore 1 9) second-byte) 3 0 ≡ 2)
     × (fedRecord Interleaver third second-byte ≡ record { kind = 1; branch = 2; places = 4 ∷ replicate 50 0 })
 unfolding sizesOf startStore fedStore fedRecord slotOf nextOf offset runStore runRecord
-taken-as-it-stands = (refl, refl)
+place-3-taken = (refl, refl)
 
 -- places stand in rising ring size for the deinterleaver, too: its branch 10 of DVB is ring 1, whose place is the first. A build that has the places in
 -- the order of branches would use the tenth, which is 0

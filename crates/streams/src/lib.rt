@@ -10,7 +10,8 @@ ghost use Rattle.laws.specs.declared.Way.the-variants.{Interleaver, Deinterleav
 ghost use Rattle.kinds.specs.Kinds.{sizesOf, inRange};
 ghost use Rattle.streams.specs.declared.Said.the-variants.{Refused};
 ghost use Rattle.streams.specs.Fed.{Runs};
-ghost use Rattle.streams.specs.Answers.{say, startedOf, startedRecord, startedStore, call, says, recordAfter, storeAfter, outputAfter};
+ghost use Rattle.streams.specs.Answers.{say, startedOf, startedRecord, startedStore};
+ghost use Rattle.streams.specs.Answers.{call, says, recordAfter, storeAfter, outputAfter};
 
 // What a start or a feed says: it is done, or refused with a number.
 pub enum Said {
@@ -53,7 +54,7 @@ fn run(way: Way, s: Stream, store: &mut [u8], input: &[u8], out: &mut [u8]) -> S
         let last = first + size;
         let i = s.lead(way, x);
         let left = rings::left_of(turns, rest, i);
-        let place = first + places[x - 1] as usize;
+        let place = first + Stream::slot(&places, x) as usize;
         let next = rings::turn(z.branches, first, last, i, place, left, store, input, out);
         places[x - 1] = (next - first) as u32;
         first = last;
@@ -62,7 +63,7 @@ fn run(way: Way, s: Stream, store: &mut [u8], input: &[u8], out: &mut [u8]) -> S
     }
     Stream {
         kind: s.kind,
-        branch: s.moved(rest),
+        branch: s.branch_after(rest),
         places,
     }
 }

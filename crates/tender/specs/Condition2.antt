@@ -1,6 +1,6 @@
 -- Condition 2 of the tender: exactly the listed parameter sets are accepted, and served; each symbol goes where the standard's formula sends it,
 -- and comes back; each index is used once; no symbol's value is read to decide where anything goes. Each theorem is a statement for a reader,
--- over the definitions that the public contracts cite; its proof is a citation. (Symbols of a width are in Symbols.antt, the DVB stream in Stream.antt.)
+-- over the definitions that the public contracts cite; its proof is a citation. (Symbols of a width are in Symbols.antt, the byte streams in Stream.antt.)
 use Prim.Native.Nat.{ℕ, _*_, _≤_, _<_}
 use mathlib.Core.List.{List, List·Memᴰ, map}
 use mathlib.Core.Logic.{_↔_, _⊎_, inl, inr}

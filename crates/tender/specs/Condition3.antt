@@ -1,5 +1,5 @@
 -- Condition 3 of the tender, for the address walks: cut anywhere, with refused calls between, joined, the outcome is that of one call, and of
--- the closed form. A way is a parameter: the walk for L is the interleaver's, the walk for M the deinterleaver's. (The DVB stream's part is
+-- the closed form. A way is a parameter: the walk for L is the interleaver's, the walk for M the deinterleaver's. (The part of the byte streams is
 -- in Stream.antt.)
 use Prim.Native.Nat.{ℕ, min, _+_, _-_, _≤_, _<_}
 use mathlib.Core.List.{List, []}

@@ -1,7 +1,7 @@
 -- The byte streams in the tender's words: condition 3, and what conditions 1 and 2 say of start and feed. Kind 1 is DVB, with 12 branches and steps of 17
 -- bytes, kind 2 is ATSC, with 52 and 4. A call is what the contracts of start, interleave and deinterleave say of it (startedOf, startedRecord,
 -- startedStore; Call, says, recordAfter, storeAfter, outputAfter). Each theorem is proved beside its subject.
-use Prim.Native.Nat.{ℕ, _+_, _-_, _*_, _%_, _≤_, _<_}
+use Prim.Native.Nat.{ℕ, suc, _+_, _-_, _*_, _/_, _%_, _≤_, _<_}
 use mathlib.Core.Logic.{_↔_}
 use mathlib.Core.List.{List, _++_, map}
 use mathlib.Core.Path.{_≡_, refl, sym, ap, _∙_}
@@ -11,11 +11,13 @@ use Rattle.laws.specs.Outcome.{done, refused}
 use Rattle.laws.specs.Sentences.{FirstTrue}
 use Rattle.laws.specs.declared.Way.{Way}
 use Rattle.laws.specs.declared.Way.the-variants.{Interleaver, Deinterleaver}
-use Rattle.delay.specs.Machine.{startStand, late}
+use Rattle.delay.specs.Machine.{Slot, ringOf, slotIn, startStand, runOutput, runStore, late}
+use Rattle.delay.specs.Bytes.{ringAt, rowAt, slotAt}
+use Rattle.delay.specs.Standing.{output-number, store-number}
 use Rattle.delay.specs.Delay.{late-early, late-from}
 use Rattle.kinds.specs.declared.Stream.{Stream}
-use Rattle.kinds.specs.Kinds.{sizesOf, startRecord}
-use Rattle.kinds.specs.Ranges.{Ranges, range-in}
+use Rattle.kinds.specs.Kinds.{sizesOf, machineOf, standOf, startRecord}
+use Rattle.kinds.specs.Ranges.{Ranges, range-in, within}
 use Rattle.streams.specs.declared.Answer.{Answer}
 use Rattle.streams.specs.Fed.{startStore, fedOutput, fedStore, fedRecord}
 use Rattle.streams.specs.Answers.{say, startedOf, startedRecord, startedStore, Call, call, says, recordAfter, storeAfter, outputAfter}
@@ -23,7 +25,7 @@ use Rattle.streams.specs.Answers as answers
 use Rattle.streams.specs.Calls.{Fresh, Calls}
 use Rattle.streams.specs.Condition3 as condition3
 use Rattle.streams.specs.Ready as readiness
-use Rattle.streams.specs.Ready.{Stood}
+use Rattle.streams.specs.Ready.{Stood, Ready}
 use Rattle.streams.specs.Blind as blindness
 use Rattle.streams.specs.Refusals.{Known, is-known, startSentences, feedSentences}
 use Rattle.streams.specs.Refusals as refusals
@@ -32,6 +34,15 @@ use Rattle.streams.specs.Refusals as refusals
 pub kinds-are : (sizesOf 1 ≡ record { branches = 12; step = 17; store = 1122 }) × (sizesOf 2 ≡ record { branches = 52; step = 4; store = 5304 })
 unfolding sizesOf
 kinds-are = (refl, refl)
+
+-- byte m from a record on goes through branch (branch + m) mod branches, and in the ring of step·x bytes that is there to place (the record's place of that
+-- ring + m / branches) mod step·x, or through where x is 0
+abbrev pub slotFrom : Way → Stream → ℕ → Slot
+slotFrom way s m =
+    let b = sizesOf (s .kind) .branches in
+    let n = sizesOf (s .kind) .step in
+    let x = ringOf way b ((s .branch + m) % b) in
+    slotIn n x ((getD (s .places) (x - 1) 0 + m / b) % (n * x))
 
 -- an answer says a number or a record, and hands a record over: these two tell any two answers apart
 pub answer-apart : (a b : Answer) → say a ≡ say b → a .stream ≡ b .stream → a ≡ b
@@ -146,6 +157,23 @@ module _ {A : Type 0} where
   pub goes-on : {way : Way} {k : ℕ} {f : A} {s s′ : Stream} {store xs ys store′ : List A} → Fresh k f s store → Calls way s store xs ys s′ store′
       → (input out : List A) → length out ≡ length input → says (call way s′ store′ input out) ≡ done (fedRecord way s′ input)
   goes-on {way} fresh calls input out e = readiness.goes-on (readiness.ready-after (readiness.ready-fresh fresh) calls) way input out e
+
+  -- a place inside its range is taken as it stands, whether or not this store was ever there: from any record in its ranges, of 51 places as every
+  -- record has, the bytes of a feed go by these slots, the first of them byte 0. What comes out, and the store after it ..
+  pub taken-as-it-stands : (way : Way) (s : Stream) (store input : List A) → Ranges s → length (s .places) ≡ 51
+      → (fedOutput way s store input ≡ runOutput (slotFrom way s) suc 0 store input) × (fedStore way s store input ≡ runStore (slotFrom way s) suc 0 store input)
+  unfolding fedOutput fedStore slotAt ringAt rowAt
+  taken-as-it-stands way s store input r l =
+      let w = within way s (range-in s r) l in
+      (output-number w store input, store-number w store input)
+
+  -- .. and the record and the store that any calls hand on from there are accepted again
+  pub goes-on-from : {way : Way} {s s′ : Stream} {store xs ys store′ : List A} → Known (s .kind) → length store ≡ sizesOf (s .kind) .store → Ranges s
+      → length (s .places) ≡ 51 → Calls way s store xs ys s′ store′
+      → (input out : List A) → length out ≡ length input → says (call way s′ store′ input out) ≡ done (fedRecord way s′ input)
+  goes-on-from {way} {s} {store = store} k e r l calls input out q =
+      let ready : Ready s store = record { kind = is-known (s .kind) k; full = e; range = range-in s r; long = l } in
+      readiness.goes-on (readiness.ready-after ready calls) way input out q
 
   -- condition 1: a number is said exactly when its sentence holds and none before it does ..
   pub refusal-order-start : (k : ℕ) (store : List A) (n : ℕ) → (startedOf k store ≡ refused n) ↔ FirstTrue (startSentences k store) n

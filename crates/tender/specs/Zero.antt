@@ -18,10 +18,12 @@ use Rattle.walks.specs.declared.Walk.{Walk}
 use Rattle.families.specs.Rules.{ruleIn}
 use Rattle.walks.specs.Answer.{walkLines, oneLines, walkList, walkCells, walkNext, Values, walkValues, walkedOf, foundOf}
 use Rattle.tables.specs.Answer.{blockLines, movedOf}
+use Rattle.kinds.specs.declared.Stream.{Stream}
 use Rattle.kinds.specs.Kinds.{startRecord}
 use Rattle.streams.specs.Fed.{fedRecord}
 use Rattle.streams.specs.Answers.{startLines, startedOf, Call, linesOf, says}
-use Rattle.flat.specs.Flat.{streamList, numberBy, numberOf, streamNumberOf, outOf, streamOut}
+use Rattle.flat.specs.Flat.{streamOf, streamList, numberBy, numberOf, streamNumberOf, outOf, streamOut}
+use Rattle.flat.specs.Flat as flattened
 
 -- no line has the number 0
 abbrev pub Numbered : List Line → Type 0
@@ -169,3 +171,7 @@ start-out k store old = out-is-after (λ n. n) (startLines k store) (startRecord
 
 pub feed-out : (c : Call ℕ) (old : List ℕ) → streamOut (says c) old ≡ after (linesOf c) (streamList (fedRecord (c .way) (c .stream) (c .input))) old
 feed-out c old = out-is-after (λ n. n) (linesOf c) (fedRecord (c .way) (c .stream) (c .input)) streamList old
+
+-- and a record that C has been handed and lends again is that record
+pub record-back : (s : Stream) → length (s .places) ≡ 51 → streamOf (streamList s) ≡ s
+record-back s l = flattened.lent-again s l

@@ -1,9 +1,10 @@
 -- The tests in their order, and then the run.
-use mathlib.Core.Path.{sym, _∙_}
+use mathlib.Core.Bool.{false}
+use mathlib.Core.Path.{_≡_, sym, _∙_}
 use lib.ListN.{length}
 use borrow.Author.Tests.{eq-eqb, ne-eqb}
 use Rattle.laws.specs.Members.{fails, passes}
-use Rattle.kinds.specs.Kinds.{sizesOf}
+use Rattle.kinds.specs.Kinds.{known, sizesOf}
 use Rattle.streams.specs.Answers.{call}
 use Rattle.streams.specs.Telling.{feeds-refused, feeds-done}
 use borrow.Author.Needs.{needs}
@@ -19,7 +20,7 @@ refusal-requires c κs = search needs
 returns : tie.Need-returns
 returns c =
     let a = c .before .before .before .before .before .before .args in
-    let kind = fails (c .before .before .known .ensures) (c .before .if1 .taken) in
+    let kind : known (a .s .kind) ≡ false = fails (c .before .before .known .ensures) (c .before .if1 .taken) in
     feeds-refused (call (a .way) (a .s) (a .store .now) (a .input .now) (a .out .now)) (rw kind) (c .refusal .ensures)
 
 of-requires : tie.Need-of-requires

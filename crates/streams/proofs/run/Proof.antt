@@ -6,7 +6,7 @@ use native.Mathlib.Omega.{arith}
 use lib.ListN.{length}
 use borrow.Author.Needs.{needs}
 use Rattle.kinds.specs.Ranges.{ranges, within}
-use Rattle.streams.specs.Feeding.{Serving, serving-first, first-low, ring-here, ring-short, place-short, ring-fits, ring-count, serving-next, serving-all}
+use Rattle.streams.specs.Feeding.{Serving, serving-first, first-low, ring-here, ring-short, slot-kept, slot-short, ring-fits, ring-count, serving-next, serving-all}
 use Rattle.streams.proofs.run.Statement.{statement}
 use Rattle.streams.proofs.run.Tie as tie
 
@@ -52,57 +52,55 @@ left-of-requires c κs =
     let start = c .before .before .before .before .before .before .before .before .before .before .before .before .before .before .before .before in
     omega (arith, div-le-self (length (start .args .input .now)) (c .before .before .before .before .before .before .before .before .before .before .before .before .of .result .branches), start .good .1 .1 .1 .0 .1)
 
-sub-place : tie.Need-sub-place Inv-loop μ-loop
-sub-place c = c .before .before .before .before .loop .inv .served .some
-
-mul-place : tie.Need-mul-place Inv-loop μ-loop
-mul-place c = let g = c .before .before .before .before .loop .inv in let h = c .before .before .if1 .taken in omega (arith, g .sized .few, h)
-
-array-read-place : tie.Need-array-read-place Inv-loop μ-loop
-array-read-place c = let g = c .before .before .before .before .loop .inv in let h = c .before .before .if1 .taken in omega (arith, g .sized .few, h, g .served .some)
+slot-requires : tie.Need-slot-requires Inv-loop μ-loop
+slot-requires c κs = let g = c .before .before .before .before .before .loop .inv in let h = c .before .before .before .if1 .taken in (g .served .some, omega (arith, g .sized .few, h))
 
 cast-place : tie.Need-cast-place Inv-loop μ-loop
-cast-place c = let g = c .before .before .before .before .loop .inv in let h = c .before .before .if1 .taken in omega (arith, ring-short g h, place-short g h)
+cast-place c = search needs
 
 add-place : tie.Need-add-place Inv-loop μ-loop
-add-place c = let g = c .before .before .before .before .loop .inv in let h = c .before .before .if1 .taken in omega (arith, ring-short g h, place-short g h, first-low g)
+add-place c = let g = c .before .before .before .before .before .before .loop .inv in let h = c .before .before .before .before .if1 .taken in omega (arith, ring-short g h, slot-short g h (c .slot .ensures ∙ slot-kept g h), first-low g)
 
 turn-requires : tie.Need-turn-requires Inv-loop μ-loop
 turn-requires c κs =
-    let g = c .before .before .before .before .before .before .loop .inv in
-    let h = c .before .before .before .before .if1 .taken in
-    let all = ring-count g h (c .before .before .before .lead2 .ensures) (c .before .before .left-of .ensures) in
-    (omega (arith, g .sized .few), omega arith, omega (arith, place-short g h), ring-fits g h, g .served .rings .room, all)
+    let g = c .before .before .before .before .before .before .before .before .loop .inv in
+    let h = c .before .before .before .before .before .before .if1 .taken in
+    let slot = slot-short g h (c .before .before .slot .ensures ∙ slot-kept g h) in
+    let all = ring-count g h (c .before .before .before .before .before .lead2 .ensures) (c .before .before .before .before .left-of .ensures) in
+    (omega (arith, g .sized .few), omega arith, omega (arith, slot), ring-fits g h, g .served .rings .room, all)
 
 sub-places : tie.Need-sub-places Inv-loop μ-loop
 sub-places c = c .before .before .before .before .turn .ensures .low
 
 cast-places : tie.Need-cast-places Inv-loop μ-loop
-cast-places c = let g = c .before .before .before .before .before .before .before .before .before .before .before .loop .inv in let h = c .before .before .before .before .before .before .before .before .before .if1 .taken in omega (arith, c .before .before .before .before .turn .ensures .high, ring-short g h)
+cast-places c = let g = c .before .before .before .before .before .before .before .before .before .before .before .before .before .loop .inv in let h = c .before .before .before .before .before .before .before .before .before .before .before .if1 .taken in omega (arith, c .before .before .before .before .turn .ensures .high, ring-short g h)
 
 sub-places-2 : tie.Need-sub-places-2 Inv-loop μ-loop
-sub-places-2 c = c .before .before .before .before .before .before .before .before .before .before .before .loop .inv .served .some
+sub-places-2 c = c .before .before .before .before .before .before .before .before .before .before .before .before .before .loop .inv .served .some
 
 mul-places : tie.Need-mul-places Inv-loop μ-loop
-mul-places c = let g = c .before .before .before .before .before .before .before .before .before .before .before .loop .inv in let h = c .before .before .before .before .before .before .before .before .before .if1 .taken in omega (arith, g .sized .few, h)
+mul-places c = let g = c .before .before .before .before .before .before .before .before .before .before .before .before .before .loop .inv in let h = c .before .before .before .before .before .before .before .before .before .before .before .if1 .taken in omega (arith, g .sized .few, h)
 
 array-write-places : tie.Need-array-write-places Inv-loop μ-loop
-array-write-places c = let g = c .before .before .before .before .before .before .before .before .before .before .before .loop .inv in let h = c .before .before .before .before .before .before .before .before .before .if1 .taken in omega (arith, g .sized .few, h, g .served .some)
+array-write-places c = let g = c .before .before .before .before .before .before .before .before .before .before .before .before .before .loop .inv in let h = c .before .before .before .before .before .before .before .before .before .before .before .if1 .taken in omega (arith, g .sized .few, h, g .served .some)
 
 add-size : tie.Need-add-size Inv-loop μ-loop
-add-size c = let g = c .before .before .before .before .before .before .before .before .before .before .before .before .loop .inv in let h = c .before .before .before .before .before .before .before .before .before .before .if1 .taken in omega (arith, ring-short g h, g .sized .short)
+add-size c = let g = c .before .before .before .before .before .before .before .before .before .before .before .before .before .before .loop .inv in let h = c .before .before .before .before .before .before .before .before .before .before .before .before .if1 .taken in omega (arith, ring-short g h, g .sized .short)
 
 add-x : tie.Need-add-x Inv-loop μ-loop
-add-x c = let g = c .before .before .before .before .before .before .before .before .before .before .before .before .loop .inv in let h = c .before .before .before .before .before .before .before .before .before .before .if1 .taken in omega (arith, g .sized .few, h)
+add-x c = let g = c .before .before .before .before .before .before .before .before .before .before .before .before .before .before .loop .inv in let h = c .before .before .before .before .before .before .before .before .before .before .before .before .if1 .taken in omega (arith, g .sized .few, h)
 
 loop-less : tie.Need-loop-less Inv-loop μ-loop
-loop-less c = omega (arith, c .before .before .before .before .before .before .before .before .before .before .if1 .taken)
+loop-less c = omega (arith, c .before .before .before .before .before .before .before .before .before .before .before .before .if1 .taken)
 
 loop-again : tie.Need-loop-again Inv-loop μ-loop
-loop-again c = let g = c .before .before .before .before .before .before .before .before .before .before .before .before .loop .inv in let h = c .before .before .before .before .before .before .before .before .before .before .if1 .taken in serving-next g h (c .before .before .before .before .before .before .before .before .before .lead2 .ensures) (c .before .before .before .before .before .turn .ensures)
+loop-again c =
+    let g = c .before .before .before .before .before .before .before .before .before .before .before .before .before .before .loop .inv in
+    let h = c .before .before .before .before .before .before .before .before .before .before .before .before .if1 .taken in
+    serving-next g h (c .before .before .before .before .before .before .before .before .before .before .before .lead2 .ensures) (c .before .before .before .before .before .before .before .before .slot .ensures ∙ slot-kept g h) (c .before .before .before .before .before .turn .ensures)
 
-moved-requires : tie.Need-moved-requires Inv-loop μ-loop
-moved-requires c κs =
+branch-after-requires : tie.Need-branch-after-requires Inv-loop μ-loop
+branch-after-requires c κs =
     let z = c .before .before .before .before .before .before .before .before .before .before .before .of .ensures in
     (omega (arith, z .branches, mod-lt (length (c .before .before .before .before .before .before .before .before .before .before .before .before .before .before .before .args .input .now)) (z .some)), c .before .before .loop .inv .within .branch)
 
@@ -113,7 +111,7 @@ same-length-2 : tie.Need-same-length-2 Inv-loop μ-loop
 same-length-2 c = c .before .before .before .loop .inv .served .rings .room ∙ sym (c .before .before .before .before .before .before .before .before .before .before .before .before .before .before .before .before .pre .2)
 
 returns : tie.Need-returns Inv-loop μ-loop
-returns c = serving-all (c .before .before .before .loop .inv) (c .before .if1 .left) (c .moved .ensures)
+returns c = serving-all (c .before .before .before .loop .inv) (c .before .if1 .left) (c .branch-after .ensures)
 
 pub run-spec : {M : Type 1} → statement M
 run-spec =
@@ -130,9 +128,7 @@ run-spec =
     add-last
     lead-requires-2
     left-of-requires
-    sub-place
-    mul-place
-    array-read-place
+    slot-requires
     cast-place
     add-place
     turn-requires
@@ -145,7 +141,7 @@ run-spec =
     add-x
     loop-less
     loop-again
-    moved-requires
+    branch-after-requires
     same-length
     same-length-2
     returns)

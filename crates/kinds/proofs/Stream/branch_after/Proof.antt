@@ -3,8 +3,8 @@ use native.Mathlib.Nat.{mod-lt}
 use native.Mathlib.Omega.{arith}
 use Prim.Native.Nat.{_+_}
 use borrow.Author.Needs.{needs}
-use Rattle.kinds.proofs.Stream.moved.Statement.{statement}
-use Rattle.kinds.proofs.Stream.moved.Tie as tie
+use Rattle.kinds.proofs.Stream.branch_after.Statement.{statement}
+use Rattle.kinds.proofs.Stream.branch_after.Tie as tie
 
 of-requires : tie.Need-of-requires
 of-requires c κs = search needs
@@ -24,5 +24,5 @@ cast-result c =
 returns : tie.Need-returns
 returns c = rw (← c .before .before .of .ensures .branches) (c .plus .ensures)
 
-pub moved-spec : {M : Type 1} → statement M
-moved-spec = tie.close (tie.spec of-requires cast-plus plus-requires cast-result returns)
+pub branch-after-spec : {M : Type 1} → statement M
+branch-after-spec = tie.close (tie.spec of-requires cast-plus plus-requires cast-result returns)
