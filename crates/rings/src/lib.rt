@@ -1,4 +1,4 @@
-// The loops over one ring of a branch machine, for any number of branches. Nothing here divides, and no loop reads a table.
+// The loops over one ring of a branch machine, for any number of branches. Nothing here divides or multiplies, and no loop reads a table.
 ghost use mathlib.Core.Path.{_≡_};
 ghost use Prim.Native.Nat.{_+_, _-_, _*_, _≤_, _<_};
 ghost use lib.ListN.{length};
