@@ -29,7 +29,7 @@ abbrev pub ringOf : Way → ℕ → ℕ → ℕ
 ringOf Interleaver branches j = j
 ringOf Deinterleaver branches j = branches - 1 - j
 
--- and so the branch of ring x is counted as the ring of a branch is, from one end or from both
+-- the branch that has ring x, which is counted alike: from the same end, or from the other (`there-and-back`, Slots.antt)
 abbrev pub branchOf : Way → ℕ → ℕ → ℕ
 branchOf way branches x = ringOf way branches x
 

@@ -9,7 +9,7 @@ use native.Mathlib.Decide.{decLt}
 use lib.Arith.{digits-div, digits-mod}
 use lib.ListN.{getD-replicate}
 use borrow.Author.Tests.{lt-ltb, le-ltb}
-use Rattle.delay.specs.Machine.{Machine, Stand, ringOf, placeOf, startStand}
+use Rattle.delay.specs.Machine.{Machine, Stand, branchOf, placeOf, startStand}
 use Rattle.delay.specs.Slots.{ring-lt, there-and-back}
 use Rattle.delay.specs.Bytes.{ringAt, rowAt}
 use Rattle.delay.specs.Standing.{After}
@@ -22,7 +22,7 @@ module _ {M : Machine} (m : ℕ) {n : ℕ} {Q : Stand} (a : After M (startStand 
 
   module _ (x : ℕ) (h : 0 < x) (l : x < M .branches) (e : M .branches ≤ suc m) where
     abbrev branch-of : ℕ
-    branch-of = ringOf (M .way) (M .branches) x
+    branch-of = branchOf (M .way) (M .branches) x
 
     -- byte u of the ring's branch is its q-th
     its-byte : (q u : ℕ) → u ≡ q * M .branches + branch-of → (ringAt M (startStand m) u ≡ x) × (rowAt M (startStand m) u ≡ q % (M .step * x))
@@ -39,7 +39,7 @@ module _ {M : Machine} (m : ℕ) {n : ℕ} {Q : Stand} (a : After M (startStand 
         let b = its-byte q u i in
         (rw (b .0) at (a .rows u low high (rw (b .0) h))) ∙ b .1
 
-    pub place-since : placeOf Q x ≡ countOf (n / M .branches) (n % M .branches) (ringOf (M .way) (M .branches) x) % (M .step * x)
+    pub place-since : placeOf Q x ≡ countOf (n / M .branches) (n % M .branches) (branchOf (M .way) (M .branches) x) % (M .step * x)
     unfolding countOf
     place-since = go (decLt branch-of (n % M .branches))
       where
