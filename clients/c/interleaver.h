@@ -1,5 +1,5 @@
 /* Interleavers for C: address lists, whole blocks of bytes and of floats, repeated receptions added up, byte streams of DVB and ATSC,
-   plan files.
+   plan files, the padding report of WCDMA.
 
        interleaver_set set = interleaver_set_of(INTERLEAVER_WLAN, 4, 192);
        uint8_t in[192], out[192];
@@ -83,7 +83,8 @@ typedef struct interleaver_stream {
 #define INTERLEAVER_DONE 0u
 #define INTERLEAVER_PROFILE 1u   /* the profile isn't 1 to 8, or it is 5 or 8 and the call is the walk for M, or it is above 5 and a plan file's */
 #define INTERLEAVER_BITS 2u      /* the bits aren't listed for the profile */
-#define INTERLEAVER_SIZE 3u      /* n isn't listed for that profile and those bits, or k not for profile 8; interleaver_fitting says which is */
+#define INTERLEAVER_SIZE 3u      /* n isn't listed for that profile and those bits, or k not for profile 8 or 5; interleaver_fitting says which is;
+                                    or a first or a last k isn't listed for profile 5, or the first is above the last */
 #define INTERLEAVER_POSITION 4u  /* a position is n or more, or a plan is 0 or more than the file has */
 #define INTERLEAVER_INPUT 5u     /* a block's input isn't n long, or its presence bytes aren't */
 #define INTERLEAVER_OUTPUT 6u    /* a block's output isn't n long, or sums or counts aren't, or a feed's output isn't as long as its input, or the buffer
@@ -103,12 +104,21 @@ uint32_t interleaver_test(const interleaver_set *set);
 
 /* Which n would have fitted: where the test of the set gives 3, the least listed n not below its own, for its profile and bits, or 0 if there is none.
    0 where the test gives anything else. What is given is a size, not a refusal. For a k that interleaver_lte_factors refuses, ask with
-   interleaver_set_of(INTERLEAVER_LTE, 1, k). */
+   interleaver_set_of(INTERLEAVER_LTE, 1, k), for one that interleaver_wcdma_figures refuses with interleaver_set_of(INTERLEAVER_WCDMA, 1, k). */
 uint32_t interleaver_fitting(const interleaver_set *set);
 
 /* The standard's own factors for a block of k of profile 8, 3GPP TS 36.212 table 5.1.3-3: f1, f2, 0, 0. A set's own may be handed over: set.factors.
    Every set made of them is accepted. Refusal 3. */
 uint32_t interleaver_lte_factors(uint32_t k, uint32_t factors[4]);
+
+/* The padding report of profile 5, 3GPP TS 25.212 4.2.3.2.3.1: a block of k is written into R rows of C columns, and the cells behind its last symbol are
+   padding. The figures are k, R, C, the cells R*C, and how many of them are padding, R*C - k. Refusal 3, where k isn't 40 to 5,114: the five numbers are
+   then as they were. */
+uint32_t interleaver_wcdma_figures(uint32_t k, uint32_t figures[5]);
+
+/* Its totals over every k from first to last, these two among them: how many they are, the sum of their cells, the sum of their padding. Refusal 3, where
+   first or last isn't 40 to 5,114, or first is above last: the three numbers are then as they were. */
+uint32_t interleaver_wcdma_totals(uint32_t first, uint32_t last, uint32_t totals[3]);
 
 /* One address: *address = L(t), or M(k). L(t) of profile 5 is found by walking up to it, and M(k) of profile 5 in a whole list that is walked first; M(k)
    of profile 8 by walking there, k being met after up to n steps; every other is reckoned at once. Refusals 1, 2, 3, 16, 11, 10, 4. */

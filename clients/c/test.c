@@ -1,7 +1,7 @@
 /* Tests every call of interleaver.h: addresses that are known, document 01's starred ones among them, each refusal that can be reached and their
    order, the size that 3 carries, out-parameters and buffers left alone by a refused call, walks and streams cut into parts, receptions added up
-   and read, the bits of floats, profiles 6, 7 and 8 beside their formulas, plan files written and judged. Prints a line for each failure, and the
-   sum. This file: the test of a set, and one address. */
+   and read, the bits of floats, profiles 6, 7 and 8 beside their formulas, plan files written and judged, the padding report. Prints a line for each
+   failure, and the sum. This file: the test of a set, and one address. */
 #include "test.h"
 
 static unsigned passed, failed;
@@ -128,6 +128,7 @@ int main(void) {
     plans();
     plans_refused();
     plans_unwritten();
+    report();
     printf("C: %u passed, %u failed\n", passed, failed);
     return failed != 0;
 }

@@ -29,6 +29,8 @@ uint32_t at_m(interleaver_set set, uint32_t k);
 uint32_t quadratic(interleaver_set set, uint32_t t); /* L(t) of a set of profile 8, by its formula */
 uint32_t next_k(uint32_t k); /* the size of profile 8 behind a listed one */
 
+int prime(uint32_t x); /* whether a number above 1 is prime, by trial division */
+
 uint8_t byte_of(uint32_t i); /* a byte for each place */
 int all_bytes(const uint8_t *p, size_t n, uint8_t x); /* whether n bytes are all x */
 int all_addresses(const uint16_t *p, size_t n, uint16_t x); /* the same of addresses */
@@ -121,4 +123,5 @@ void streams_refused(void);
 void plans(void);
 void plans_refused(void);
 void plans_unwritten(void);
+void report(void);
 #endif

@@ -20,7 +20,7 @@ uint32_t number_at(const uint8_t *at) { return at[0] * 16777216u + at[1] * 65536
 
 uint32_t address_at(const uint8_t *at) { return at[0] * 256u + at[1]; }
 
-static int prime(uint32_t x) {
+int prime(uint32_t x) {
     uint32_t d;
     for (d = 2; d * d <= x; d++)
         if (x % d == 0)

@@ -33,6 +33,7 @@ mod raw;
 mod refusal;
 mod streams;
 mod sums;
+pub mod wcdma;
 
 use refusal::answer_with;
 pub use refusal::Refusal;

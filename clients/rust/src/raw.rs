@@ -4,6 +4,8 @@ extern "C" {
     pub fn interleaver_test(set: &Set) -> u32;
     pub fn interleaver_fitting(set: &Set) -> u32;
     pub fn interleaver_lte_factors(k: u32, factors: &mut [u32; 4]) -> u32;
+    pub fn interleaver_wcdma_figures(k: u32, figures: &mut [u32; 5]) -> u32;
+    pub fn interleaver_wcdma_totals(first: u32, last: u32, totals: &mut [u32; 3]) -> u32;
     pub fn interleaver_address_l(set: &Set, t: u32, address: &mut u32) -> u32;
     pub fn interleaver_address_m(set: &Set, k: u32, address: &mut u32) -> u32;
     pub fn interleaver_walk_l(set: &Set, cell: &mut u32, out: *mut u16, len: usize, written: &mut u32, cells: &mut u32) -> u32;

@@ -1,9 +1,9 @@
 //! Why a call was refused.
 
 // A line for each refusal: the number that the calls for C give, a name, what it carries with it if anything, and the sentence that the documentation
-// and an error say alike.
+// and an error say alike. Behind the semicolon those whose number another line has.
 macro_rules! refusals {
-    ($($number:literal $name:ident $({ $size:ident })? $sentence:literal)*) => {
+    ($($number:literal $name:ident $({ $size:ident })? $sentence:literal)*; $($same:literal $bare:ident $also:literal)*) => {
         /// Why a call was refused, with the numbers of the calls for C.
         #[derive(Clone, Copy, Debug, PartialEq, Eq)]
         pub enum Refusal {
@@ -13,6 +13,10 @@ macro_rules! refusals {
                     /// The least listed N not below the one asked for, for that profile and those bits, or 0 if there is none.
                     $size: u32,
                 })?,
+            )*
+            $(
+                #[doc = concat!(stringify!($same), " too: ", $also, ".")]
+                $bare,
             )*
             /// A number that has no name here: of an archive that refuses for more reasons than this crate knows.
             Other(u32),
@@ -31,6 +35,7 @@ macro_rules! refusals {
             pub fn number(self) -> u32 {
                 match self {
                     $(Refusal::$name { .. } => $number,)*
+                    $(Refusal::$bare => $same,)*
                     Refusal::Other(number) => number,
                 }
             }
@@ -38,6 +43,7 @@ macro_rules! refusals {
             fn sentence(self) -> &'static str {
                 match self {
                     $(Refusal::$name { .. } => $sentence,)*
+                    $(Refusal::$bare => $also,)*
                     Refusal::Other(_) => "for a reason that has no name here",
                 }
             }
@@ -61,7 +67,8 @@ refusals! {
     13 Finite "a present value, a stored sum whose count isn't 0, or the sum of these two isn't finite"
     14 Presence "a presence byte is above 1"
     15 Count "a count would pass 65,535"
-    16 Stream "the spatial stream isn't 1 to 4, or isn't 1 and the profile is neither 6 nor 7"
+    16 Stream "the spatial stream isn't 1 to 4, or isn't 1 and the profile is neither 6 nor 7";
+    3 Range "the first or the last K of a range isn't 40 to 5,114, or the first is above the last"
 }
 
 impl std::fmt::Display for Refusal {

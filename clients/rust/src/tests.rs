@@ -1,12 +1,13 @@
 // Every function of the wrapper over the archive: refusals, slices left alone, the bits of floats and sums, walks cut into parts.
 // spatial.rs has the streams of profiles 6 and 7, factors.rs the factors of profile 8, fitting.rs the size that refusal 3 carries,
-// streams.rs byte streams, plans.rs plan files.
+// streams.rs byte streams, plans.rs plan files, report.rs the padding report.
 use super::refusal::answer;
 use super::*;
 
 mod factors;
 mod fitting;
 mod plans;
+mod report;
 mod spatial;
 mod streams;
 

@@ -16,6 +16,8 @@ use Rattle.walks.specs.Answer.{Values, walkedOf}
 use Rattle.tables.specs.Answer.{movedOf}
 use Rattle.kinds.specs.declared.Stream.{Stream}
 use Rattle.streams.specs.Answers.{Call, call}
+use Rattle.wcdma_report.specs.declared.Figures.{Figures}
+use Rattle.wcdma_report.specs.declared.Totals.{Totals}
 
 -- the parameter set that C lends: profile, bits, n, stream, and the four factors
 unfoldable pub setOf : List ℕ → Set
@@ -30,6 +32,13 @@ setOf l = record {
 -- factors as C has them
 abbrev pub factorsList : Factors → List ℕ
 factorsList f = f .first ∷ f .second ∷ f .third ∷ f .fourth ∷ []
+
+-- a line of the padding report, and its totals
+abbrev pub figuresList : Figures → List ℕ
+figuresList f = f .k ∷ f .r ∷ f .c ∷ f .cells ∷ f .pads ∷ []
+
+abbrev pub totalsList : Totals → List ℕ
+totalsList t = t .sizes ∷ t .cells ∷ t .pads ∷ []
 
 -- a walk's record: the set, and the number behind `cell`
 unfoldable pub walkOf : List ℕ → ℕ → Walk

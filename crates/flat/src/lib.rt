@@ -10,19 +10,28 @@ use tables::Moved;
 use walks::Found;
 use walks::Walk;
 use walks::Walked;
+use wcdma_report::Reported;
+use wcdma_report::Summed;
 ghost use mathlib.Core.Path.{_≡_};
 ghost use Prim.Native.Nat.{ℕ};
 ghost use Rattle.sets.specs.Verdict.{sayVerdict};
 ghost use Rattle.lte.specs.Factors.{sayGiven};
+ghost use Rattle.wcdma_report.specs.Report.{sayReported, saySummed};
 ghost use Rattle.walks.specs.Answer.{sayWalked, sayFound, Values};
 ghost use Rattle.tables.specs.Answer.{sayMoved};
-ghost use Rattle.flat.specs.Flat.{setOf, walkOf, numberOf, outOf, factorsList};
+ghost use Rattle.flat.specs.Flat.{setOf, walkOf, numberBy, numberOf, outOf, factorsList, figuresList, totalsList};
 
 // How many numbers a set is.
 pub const SET: usize = 8;
 
 // How many of them are its factors.
 pub const FACTORS: usize = 4;
+
+// How many numbers a line of the padding report is.
+pub const FIGURES: usize = 5;
+
+// How many its totals are.
+pub const TOTALS: usize = 3;
 
 // The set that is lent: profile, bits, n, stream, and the four factors.
 pub fn set_of(set: &[u32; SET]) -> Set
@@ -63,6 +72,34 @@ pub fn given(g: Given, factors: &mut [u32; FACTORS]) -> u32
             0
         }
         Given::Refused(x) => x.number,
+    }
+}
+
+// Takes the figures of one K apart.
+pub fn reported(r: Reported, figures: &mut [u32; FIGURES]) -> u32
+    ensures number { λ n. ⌜ n ≡ numberOf (sayReported r) ⌝ }
+    ensures figures { λ n. ⌜ now (figures .exit) ≡ outOf (sayReported r) figuresList (now (figures .entry)) ⌝ }
+{
+    match r {
+        Reported::Of(f) => {
+            *figures = [f.k, f.r, f.c, f.cells, f.pads];
+            0
+        }
+        Reported::Refused(x) => x.number,
+    }
+}
+
+// Takes the totals of a range apart.
+pub fn summed(s: Summed, totals: &mut [u32; TOTALS]) -> u32
+    ensures number { λ r. ⌜ r ≡ numberBy (λ (k : ℕ). k) (saySummed s) ⌝ }
+    ensures totals { λ r. ⌜ now (totals .exit) ≡ outOf (saySummed s) totalsList (now (totals .entry)) ⌝ }
+{
+    match s {
+        Summed::Of(t) => {
+            *totals = [t.sizes, t.cells, t.pads];
+            0
+        }
+        Summed::Refused(k) => k,
     }
 }
 

@@ -62,6 +62,9 @@ fn moving(w: &[u8]) -> Command {
     if same(w, b"combine") {
         return Command::Combine;
     }
+    if same(w, b"padding") {
+        return Command::Padding;
+    }
     of_plans(w)
 }
 
@@ -122,7 +125,7 @@ fn has_only(line: &[u8], n: usize) -> bool {
 pub fn in_form(c: Command, line: &[u8]) -> bool {
     match c {
         Command::Help => has_only(line, 0) | has_only(line, 1),
-        Command::Profiles | Command::Lines => has_only(line, 1),
+        Command::Profiles | Command::Lines | Command::Padding => has_only(line, 1),
         Command::Factors | Command::Judge => has_only(line, 2),
         Command::Stream(_) | Command::Differ => has_only(line, 3),
         Command::Burst(_) => has_only(line, 4),

@@ -178,6 +178,7 @@ fn answer_line(line: &[u8]) {
         | Command::Deinterleave
         | Command::Stream(_)
         | Command::Combine
+        | Command::Padding
         | Command::Judge
         | Command::Differ
         | Command::Plans
@@ -214,6 +215,7 @@ fn obey(line: &[u8]) {
         Command::Interleave => move_blocks(Way::Interleaver, line),
         Command::Deinterleave => move_blocks(Way::Deinterleaver, line),
         Command::Stream(kind) => move_stream(kind, line),
+        Command::Padding => report_pages::report(),
         Command::Judge => plan_pages::judged::judge(2),
         Command::Differ => plan_pages::compared::differ(2, 3),
         _ => ask(c, line),

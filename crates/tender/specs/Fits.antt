@@ -21,6 +21,8 @@ use Rattle.sets.specs.Verdict.{setLines, rulingOf, refusal, verdictOf, fittingO
 use Rattle.sets.specs.Handed.{least-with-3, none-without-3, its-number, as-tested, three-unsaid}
 use Rattle.sets.specs.Handed as law
 use Rattle.lte.specs.Factors.{lteSet, givenLines, givenOf, standardFactors}
+use Rattle.wcdma_report.specs.Report.{isSize, turboSet, figures, figuresLines, figuresOf}
+use Rattle.wcdma_report.specs.Sized.{listed-is}
 use Rattle.walks.specs.declared.Walk.{Walk}
 use Rattle.walks.specs.Answer.{walkLines, oneLines, walkValues, walkedOf, foundOf}
 use Rattle.families.specs.Rules.{barred, ruleIn}
@@ -82,6 +84,11 @@ pub fits-handed-on-factors : (k : ℕ) → HandsOn (lteSet k) (givenOf k)
 unfolding givenOf
 fits-handed-on-factors k x e = carries (lteSet k) x (its-number (lteSet k) (standardFactors k) x (givenLines k) e)
 
+-- .. and the one for a line of the padding report, of profile 5 and K
+pub fits-handed-on-figures : (k : ℕ) → HandsOn (turboSet k) (figuresOf k)
+unfolding figuresOf
+fits-handed-on-figures k x e = carries (turboSet k) x (its-number (turboSet k) (figures k) x (figuresLines k) e)
+
 -- a call that is refused with 3 is refused as the test of its set is: what C asks the set for is what the call's refusal carries
 abbrev pub AsTested : {A : Type 0} → Set → Outcome Refusal A → Type 0
 AsTested s o = (x : Refusal) → o ≡ refused x → x .number ≡ 3 → (verdictOf s ≡ refused x) × (fittingOf (verdictOf s) ≡ x .size)
@@ -106,6 +113,11 @@ fits-for-c s = (
   λ h k x e q. with-size s x (as-tested s (toldOf (held h k)) x [] _ refl refl e q),
 )
 
+-- a call whose one line says that the size of a set isn't listed
+as-sized : (s : Set) {A : Type 0} (a : A) (b : Bool) → (b ≡ true → rulingOf s ≡ stopped 3) → AsTested s (judged (refusal s) (line 3 b ∷ []) a)
+as-sized s a true r x e q = let z : refusal s 3 ≡ x = cc in with-size s x (stopped-refuses s (r refl) ∙ ap refused z)
+as-sized s a false r x e q = let z : _≡_ {A = ℕ} 0 1 = cc in absurd (omega arith)
+
 -- .. and for a K without factors, what C asks a set of profile 8 and K for
 k-not-listed : (k : ℕ) → not (sizeListed (size 8 1 k)) ≡ true → rulingOf (lteSet k) ≡ stopped 3
 unfolding setLines profileListed bitsListed entryBy
@@ -113,14 +125,16 @@ k-not-listed k e = rw e refl
 
 pub fits-for-c-factors : (k : ℕ) → AsTested (lteSet k) (givenOf k)
 unfolding givenOf
-fits-for-c-factors k x e q = go (not (sizeListed (size 8 1 k))) refl e
-  where
-    go : (b : Bool) → not (sizeListed (size 8 1 k)) ≡ b → judged (refusal (lteSet k)) (line 3 b ∷ []) (standardFactors k) ≡ refused x
-        → (verdictOf (lteSet k) ≡ refused x) × (fittingOf (verdictOf (lteSet k)) ≡ x .size)
-    go true w e =
-        let z : refusal (lteSet k) 3 ≡ x = cc in
-        with-size (lteSet k) x (stopped-refuses (lteSet k) (k-not-listed k w) ∙ ap refused z)
-    go false w e = let z : _≡_ {A = ℕ} 0 1 = cc in absurd (omega arith)
+fits-for-c-factors k = as-sized (lteSet k) (standardFactors k) (not (sizeListed (size 8 1 k))) (k-not-listed k)
+
+-- .. and for a K of the padding report, a set of profile 5 and K
+k-no-size : (k : ℕ) → not (isSize k) ≡ true → rulingOf (turboSet k) ≡ stopped 3
+unfolding setLines profileListed bitsListed entryBy
+k-no-size k e = let z : not (sizeListed (size 5 1 k)) ≡ true = ap not (sym (listed-is k)) ∙ e in rw z refl
+
+pub fits-for-c-figures : (k : ℕ) → AsTested (turboSet k) (figuresOf k)
+unfolding figuresOf
+fits-for-c-figures k = as-sized (turboSet k) (figures k) (not (isSize k)) (k-no-size k)
 
 -- where N is listed it fits itself, and the test doesn't say 3, nor then does any other call
 pub fits-itself : (s : Set) → Lists s (s .n) → (refusal s 3 .size ≡ s .n) × ((x : Refusal) → verdictOf s ≡ refused x → x .number ≡ 3 → ⊥)

@@ -16,3 +16,5 @@ pub mod Fits
 pub mod Plans
 pub mod Differ
 pub mod ZeroPlans
+pub mod Report
+pub mod ReportLines

@@ -10,6 +10,7 @@ use Rattle.sets.specs.declared.Set.{Set}
 use Rattle.sets.specs.declared.Refusal.{Refusal}
 use Rattle.sets.specs.Verdict.{setLines, refusal, refusal-number, verdictOf}
 use Rattle.lte.specs.Factors.{lteSet, givenLines, givenOf, standardFactors}
+use Rattle.wcdma_report.specs.Report.{turboSet, figures, totals, figuresLines, totalsLines, figuresOf, totalsOf}
 use Rattle.walks.specs.declared.Walk.{Walk}
 use Rattle.walks.specs.Answer.{walkLines, oneLines, walkValues, walkedOf, foundOf}
 use Rattle.families.specs.Rules.{ruleIn}
@@ -85,6 +86,14 @@ eight-unsaid s = (
 pub eight-unsaid-factors : (k : ℕ) → NotEight (givenOf k)
 unfolding among givenOf
 eight-unsaid-factors k = unsaid (refusal (lteSet k)) (λ x. x .number) (refusal-number (lteSet k)) 8 (givenLines k) (standardFactors k) refl
+
+-- .. nor the two of the padding report ..
+pub eight-unsaid-report : ((k : ℕ) → NotEight (figuresOf k)) × ((first last : ℕ) → totalsOf first last ≡ refused 8 → ⊥)
+unfolding among figuresOf totalsOf
+eight-unsaid-report = (
+  λ k. unsaid (refusal (turboSet k)) (λ x. x .number) (refusal-number (turboSet k)) 8 (figuresLines k) (figures k) refl,
+  λ first last q. unsaid (λ n. n) (λ n. n) (λ n. refl) 8 (totalsLines first last) (totals first last) refl 8 q refl,
+)
 
 -- .. or a stream's, whose refusal is the number alone
 pub eight-unsaid-stream : {A : Type 0}

@@ -1,0 +1,8 @@
+pub mod Lines
+pub mod Asked
+pub mod Split
+pub mod Answers
+pub mod Digits
+pub mod Joined
+pub mod Settled
+pub mod Exactly

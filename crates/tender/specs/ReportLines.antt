@@ -1,0 +1,44 @@
+-- The padding report from the bytes of standard input to its text, request 11: "each line in decimal", `refused 3` for all else, "the second line may end
+-- with the input, and nothing after it is read", and the whole output.
+use Prim.Native.Nat.{ℕ, _<_}
+use mathlib.Core.Bool.{true, false}
+use mathlib.Core.List.{List, [], _∷_, _++_}
+use mathlib.Core.Logic.{_↔_}
+use mathlib.Core.Path.{_≡_, sym, ap, _∙_}
+use Rattle.laws.specs.Outcome.{done, refused}
+use Rattle.wcdma_report.specs.Report.{Between}
+use Rattle.report_asked.specs.Asked.{range, askedBy, settledBy}
+use Rattle.report_asked.specs.Exactly.{TwoLines}
+use Rattle.report_asked.specs.Exactly as lines
+use Rattle.report_asked.specs.Settled.{Open}
+use Rattle.report_asked.specs.Settled as law
+use Rattle.report_pages.specs.Text.{textOf, reportText, answerText}
+use Rattle.report_pages.specs.Answered.{refused3, fourLines}
+use Rattle.report_pages.specs.Answered as answered
+
+module _ (s : List ℕ) where
+  -- a first K and a last are asked for exactly where the bytes are two lines that say them, and 40 ≤ first ≤ last ≤ 5,114 ..
+  pub report-asked : (first last : ℕ) → (askedBy s ≡ done (range first last)) ↔ (TwoLines s first last × Between first last)
+  report-asked = lines.asked-exactly s
+
+  -- .. and all other bytes are refused, with 3
+  pub report-refused : (k : ℕ) → (askedBy s ≡ refused k) ↔ ((k ≡ 3) × ((first last : ℕ) → TwoLines s first last → Between first last → ⊥))
+  report-refused = lines.refused-exactly s
+
+  -- bytes that settle it: whatever follows them, what is asked for and the text are the same
+  pub report-settled : settledBy s ≡ true → (rest : List ℕ) → (askedBy (s ++ rest) ≡ askedBy s) × (answerText (s ++ rest) ≡ answerText s)
+  unfolding answerText
+  report-settled e rest = let q = law.settled-stays s rest e in (q, ap textOf q)
+
+  -- bytes that don't: they are fewer than ten, and go on to two lines of one to four digits
+  pub report-open : settledBy s ≡ false → Open s
+  report-open = law.open-is s
+
+  -- the text is the head, a line for each K and the totals where two lines ask for them, and else `refused 3`
+  pub report-text : ((first last : ℕ) → TwoLines s first last → Between first last → answerText s ≡ reportText first last)
+      × (((first last : ℕ) → TwoLines s first last → Between first last → ⊥) → answerText s ≡ refused3)
+  report-text = (answered.answer-report s, answered.answer-refused s)
+
+-- "For 40 and 41 the whole output is four lines": `K R C cells pads`, `40 5 8 40 0`, `41 5 10 50 9`, `total 2 90 9`. The bytes: `40`, LF, `41`, LF
+pub report-example : answerText (52 ∷ 48 ∷ 10 ∷ 52 ∷ 49 ∷ 10 ∷ []) ≡ fourLines
+report-example = answered.answer-two
