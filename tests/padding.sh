@@ -96,6 +96,14 @@ for range in '150 210' '470 540' '2270 2290' '5000 5114'; do
     expect "padding of $range" $?
 done
 
+# the picture of all sizes is the one that README.md shows; what is no report draws none
+tools/padding-picture <"$work/want" >"$work/got" 2>"$work/said"
+cmp -s "$work/got" docs/pictures/padding.svg && [ ! -s "$work/said" ]
+expect 'the picture of the padding' $?
+echo 'refused 3' | tools/padding-picture >"$work/got" 2>"$work/said"
+[ $? -eq 1 ] && [ ! -s "$work/got" ] && said 'padding-picture: expected a padding report, not refused 3'
+expect 'no picture of a refusal' $?
+
 # the figures of a K are those of its lists: as many cells walked, and as many of them padding
 for k in 40 41 480 481 530 531 2281 5114; do
     line=$(printf '%s\n%s\n' "$k" "$k" | ./interleaver padding | sed -n 2p)

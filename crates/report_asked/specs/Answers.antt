@@ -1,19 +1,18 @@
 -- From what the calls found in the bytes to what they say of them. Rests on Asked and Split.
 use Prim.Native.Nat.{ℕ, _+_, _-_, _≤_, _<_}
-use mathlib.Core.Bool.{Bool, true, false, not, _||_}
+use mathlib.Core.Bool.{Bool, true, false, not}
 use mathlib.Core.List.{List}
-use mathlib.Core.Path.{_≡_, refl, sym, ap, _∙_}
+use mathlib.Core.Path.{_≡_, sym, ap, _∙_}
 use native.Mathlib.Omega.{arith}
 use lib.ListN.{length, take, drop, length-take, length-drop}
 use lib.Seq.{take-all}
 use borrow.Author.Tests.{eq-eqb, ne-eqb}
-use Rattle.laws.specs.Outcome.{Outcome, done, refused}
+use Rattle.laws.specs.Outcome.{done, refused}
 use Rattle.numbers.specs.declared.Number.{Number}
 use Rattle.numbers.specs.declared.Number.the-variants.{Value, Wrong}
 use Rattle.wcdma_report.specs.Report.{isSize, isRange}
-use Rattle.report_asked.specs.declared.Range.{Range}
-use Rattle.report_asked.specs.Lines.{lineOf, ended, behind, numberIn, isNumber, begins}
-use Rattle.report_asked.specs.Asked.{range, rangeOf, askedBy, askedLast, settledLast, isSizeIn, settledBy}
+use Rattle.report_asked.specs.Lines.{lineOf, ended, behind, numberIn, begins}
+use Rattle.report_asked.specs.Asked.{range, rangeOf, askedBy, askedLast, settledLast, settledBy}
 use Rattle.report_asked.specs.Split.{line-le, take-line, drop-line, ended-before, ended-not}
 
 -- e is where the first line of s ends, and n the number that it says

@@ -9,7 +9,6 @@ use native.Mathlib.Omega.{arith}
 use lib.Dec.{eqb, ltb}
 use lib.ListN.{length}
 use borrow.Author.Tests.{le-ltb, ltb-false, eqb-false, ne-eqb}
-use Rattle.numbers.specs.declared.Number.{Number}
 use Rattle.numbers.specs.declared.Number.the-variants.{Value, Wrong}
 use Rattle.numbers.specs.Decimal.{digitOf, readFrom, saidBy}
 use Rattle.report_asked.specs.Lines.{ended, numberIn}
@@ -88,6 +87,7 @@ number-exactly s v = (λ e. only (ltb 4 (length s)) (eqb (length s) 0) refl refl
         let l = ltb-false 4 (length s) m in
         let w = read-only s 0 v (simp (le-ltb 10 (length s) (omega arith)) at e) in
         record { some = omega (arith, eqb-false (length s) 0 n); few = l; digits = w .0; decimal = w .1 }
+
     said : Says s v → numberIn s ≡ Value v
     said y =
         let f = y .few in

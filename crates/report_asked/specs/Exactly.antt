@@ -4,7 +4,7 @@ use Prim.Native.Nat.{ℕ}
 use mathlib.Core.Bool.{Bool, true, false, cond, not}
 use mathlib.Core.List.{List, [], _∷_, _++_, append-nil}
 use mathlib.Core.Logic.{_↔_, _⊎_, inl, inr}
-use mathlib.Core.Path.{_≡_, refl, sym, ap, ap₂, subst, _∙_}
+use mathlib.Core.Path.{_≡_, refl, sym, ap, _∙_}
 use native.Mathlib.Omega.{arith}
 use borrow.Author.Tests.{not-false}
 use Rattle.laws.specs.Outcome.{Outcome, done, refused, clear, stopped, settle, done-clear}
@@ -60,6 +60,7 @@ line-last l rest {v} y o = go o
   where
     n : numberIn l ≡ Value v
     n = number-exactly l v .1 y
+
     go : Over rest → numberIn (lineOf (l ++ rest)) ≡ Value v
     go (inl e) =
         ap (λ (x : List ℕ). numberIn (lineOf x)) (ap (λ (r : List ℕ). l ++ r) e ∙ append-nil l) ∙ ap numberIn (line-whole l (number-unbroken l n)) ∙ n
@@ -101,16 +102,19 @@ asked-exactly s first last = (λ e. only (ended s) refl e, λ w. said (w .0) (w 
     only false q e = let z : _≡_ {A = ℕ} 0 1 = cc in absurd (omega arith)
     only true q e =
         let d = range-done (numberIn (lineOf s)) (numberIn (lineOf (behind s))) e in
-        let l = last-line (behind s) (d .1) in
-        (record {
-          first-line = lineOf s;
-          last-line = l .line;
-          rest = l .rest;
-          first-says = number-exactly (lineOf s) first .0 (d .0);
-          last-says = l .says;
-          whole = line-cut s q ∙ ap (λ (u : List ℕ). lineOf s ++ (10 ∷ u)) (l .whole);
-          over = l .over;
-        }, d .2)
+        let l = last-line (behind s) (d .1) in (
+          record {
+            first-line = lineOf s;
+            last-line = l .line;
+            rest = l .rest;
+            first-says = number-exactly (lineOf s) first .0 (d .0);
+            last-says = l .says;
+            whole = line-cut s q ∙ ap (λ (u : List ℕ). lineOf s ++ (10 ∷ u)) (l .whole);
+            over = l .over;
+          },
+          d .2,
+        )
+
     said : TwoLines s first last → Between first last → askedBy s ≡ done (range first last)
     said t b =
         let n = number-exactly (t .first-line) first .1 (t .first-says) in
@@ -126,8 +130,10 @@ refused-exactly s k = (λ e. (three (ended s) e, λ a b t w. neither e (asked-ex
     three : {j : ℕ} (x : Bool) → cond x (rangeOf (numberIn (lineOf s)) (numberIn (lineOf (behind s)))) (refused 3) ≡ refused j → j ≡ 3
     three true e = range-3 (numberIn (lineOf s)) (numberIn (lineOf (behind s))) e
     three {j} false e = let z : _≡_ {A = ℕ} 3 j = cc in sym z
+
     neither : {r : Range} → askedBy s ≡ refused k → askedBy s ≡ done r → ⊥
     neither e d = let z : _≡_ {A = ℕ} 0 1 = cc in absurd (omega arith)
+
     so : (o : Outcome ℕ Range) → askedBy s ≡ o → k ≡ 3 → ((first last : ℕ) → TwoLines s first last → Between first last → ⊥) → askedBy s ≡ refused k
     so (done r) q e h = let w = asked-exactly s (r .first) (r .last) .0 q in absurd (h (r .first) (r .last) (w .0) (w .1))
     so (refused j) q e h = q ∙ ap refused (three (ended s) q ∙ sym e)

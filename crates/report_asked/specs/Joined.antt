@@ -1,16 +1,15 @@
 -- Bytes behind bytes: where the first line is cut then, and that what is no number stays none. Rests on Lines.
-use Prim.Native.Nat.{ℕ, suc, _+_, _*_, _≤_, _<_}
-use mathlib.Core.Bool.{Bool, true, false, cond, _||_, false≢true}
+use Prim.Native.Nat.{ℕ, _+_, _*_, _≤_}
+use mathlib.Core.Bool.{Bool, true, false, cond, false≢true}
 use mathlib.Core.List.{List, [], _∷_, _++_, append-nil, append-assoc}
 use mathlib.Core.Path.{_≡_, refl, sym, ap, subst, _∙_}
 use native.Mathlib.Omega.{arith}
 use lib.Dec.{eqb, ltb}
 use lib.ListN.{length, length-append}
 use borrow.Author.Tests.{le-ltb, ltb-false, eqb-true, ne-eqb}
-use Rattle.numbers.specs.declared.Number.{Number}
-use Rattle.numbers.specs.declared.Number.the-variants.{Value, Wrong}
+use Rattle.numbers.specs.declared.Number.the-variants.{Wrong}
 use Rattle.numbers.specs.Decimal.{digitOf, readFrom, saidBy}
-use Rattle.report_asked.specs.Lines.{lineOf, ended, behind, numberIn, isNumber, begins}
+use Rattle.report_asked.specs.Lines.{lineOf, ended, behind, numberIn}
 
 module _ (t : List ℕ) where
   -- behind bytes with no LF
@@ -64,6 +63,7 @@ module _ (t : List ℕ) where
           let l = ltb-false 4 (length (s ++ t)) h in
           let f : length s ≤ 4 = omega (arith, length-append s t) in
           simp (le-ltb 4 (length s) f, ne-eqb (length s) 0 some, le-ltb 10 (length s) (omega arith)) at e
+
       long : (x : Bool) → ltb 4 (length (s ++ t)) ≡ x
           → cond x Wrong (cond (eqb (length (s ++ t)) 0) Wrong (cond (ltb 10 (length (s ++ t))) Wrong (readFrom 0 (s ++ t)))) ≡ Wrong
       long true h = refl

@@ -1,18 +1,18 @@
 -- Bytes that settle what is asked for: whatever follows them, it stays. Bytes that don't: they are fewer than ten, and begin two lines of one to four
 -- digits. Rests on Asked and Joined.
-use Prim.Native.Nat.{ℕ, suc, _+_, _≤_, _<_}
-use mathlib.Core.Bool.{Bool, true, false, cond, not, _||_, _&&_, false≢true}
+use Prim.Native.Nat.{ℕ, _+_, _≤_}
+use mathlib.Core.Bool.{Bool, true, false, cond, not, _||_, false≢true}
 use mathlib.Core.List.{List, [], _∷_, _++_, append-nil, append-assoc}
-use mathlib.Core.Path.{_≡_, refl, sym, ap, ap₂, _∙_}
+use mathlib.Core.Path.{_≡_, refl, sym, ap, _∙_}
 use native.Mathlib.Omega.{arith}
 use lib.Dec.{eqb, ltb}
 use lib.ListN.{length, length-append}
 use borrow.Author.Tests.{eqb-false, ne-eqb, ltb-false, not-true, not-false}
-use Rattle.laws.specs.Outcome.{Outcome, done, refused}
+use Rattle.laws.specs.Outcome.{Outcome, refused}
 use Rattle.numbers.specs.declared.Number.{Number}
 use Rattle.numbers.specs.declared.Number.the-variants.{Value, Wrong}
 use Rattle.numbers.specs.Decimal.{digitOf, readFrom, saidBy}
-use Rattle.wcdma_report.specs.Report.{isSize, isRange}
+use Rattle.wcdma_report.specs.Report.{isSize}
 use Rattle.report_asked.specs.declared.Range.{Range}
 use Rattle.report_asked.specs.Lines.{lineOf, ended, behind, numberIn, isNumber, begins}
 use Rattle.report_asked.specs.Asked.{rangeOf, askedBy, settledLast, isSizeIn, settledBy}
@@ -86,6 +86,7 @@ settled-stays s t e = go (ended s) refl e
         either : (x : Bool) → cond {A = Outcome ℕ Range} x (refused 3) (refused 3) ≡ refused 3
         either true = refl
         either false = refl
+
     over : (n : Number) → ended s ≡ true → numberIn (lineOf s) ≡ n → cond (isSizeIn n) (settledLast (behind s)) true ≡ true
         → rangeOf n (numberIn (lineOf (behind s ++ t))) ≡ rangeOf n (numberIn (lineOf (behind s)))
     over Wrong q m h = refl
@@ -95,6 +96,7 @@ settled-stays s t e = go (ended s) refl e
             → rangeOf (Value a) (numberIn (lineOf (behind s ++ t))) ≡ rangeOf (Value a) (numberIn (lineOf (behind s)))
         size true z h = ap (rangeOf (Value a)) (last-stays (behind s) t h)
         size false z h = range-out a (numberIn (lineOf (behind s ++ t))) z ∙ sym (range-out a (numberIn (lineOf (behind s))) z)
+
     go : (x : Bool) → ended s ≡ x → cond x (cond (isSizeIn (numberIn (lineOf s))) (settledLast (behind s)) true) (not (begins s)) ≡ true
         → askedBy (s ++ t) ≡ cond x (rangeOf (numberIn (lineOf s)) (numberIn (lineOf (behind s)))) (refused 3)
     go true q h =
@@ -139,7 +141,11 @@ first-goes s b =
       first = w .v;
       first-says = ap (λ (l : List ℕ). numberIn (lineOf l)) e ∙ ap numberIn (c .line-is) ∙ w .says;
       last = 0;
-      last-says = ap (λ (l : List ℕ). numberIn (lineOf (behind l))) e ∙ ap (λ (l : List ℕ). numberIn (lineOf l)) (c .behind-is) ∙ ap numberIn (line-whole (48 ∷ []) (number-unbroken (48 ∷ []) nought)) ∙ nought;
+      last-says =
+          ap (λ (l : List ℕ). numberIn (lineOf (behind l))) e
+          ∙ ap (λ (l : List ℕ). numberIn (lineOf l)) (c .behind-is)
+          ∙ ap numberIn (line-whole (48 ∷ []) (number-unbroken (48 ∷ []) nought))
+          ∙ nought;
     }
 
 -- the first line is over, and the second isn't: that goes on
@@ -181,9 +187,11 @@ open-is s e = go (ended s) refl e
               short = omega (arith, l, length-append (lineOf s) (10 ∷ behind s), number-short (lineOf s) m, begins-short (behind s) b);
               goes = last-goes s q m b;
             }
+
         size : (x : Bool) → cond x (settledLast (behind s)) true ≡ false → Open s
         size true h = last (ended (behind s)) h
         size false h = absurd (false≢true (sym h))
+
     go : (x : Bool) → ended s ≡ x → cond x (cond (isSizeIn (numberIn (lineOf s))) (settledLast (behind s)) true) (not (begins s)) ≡ false → Open s
     go true q h = over (numberIn (lineOf s)) q refl h
     go false q h =

@@ -1,20 +1,18 @@
 -- What the bytes of standard input give, in plain words, and the request's example to the letter. Rests on Text, and on Exactly of crate report_asked.
-use Prim.Native.Nat.{ℕ, zero, suc}
+use Prim.Native.Nat.{ℕ}
 use mathlib.Core.List.{List, [], _∷_, _++_}
-use mathlib.Core.Path.{_≡_, refl, sym, ap, ap₂, _∙_}
+use mathlib.Core.Path.{_≡_, refl, sym, ap}
 use native.Mathlib.Omega.{arith}
-use Rattle.laws.specs.Outcome.{done, refused}
 use Rattle.numbers.specs.Decimal.{digitOf, readFrom, saidBy}
 use Rattle.words.specs.Puts.{decimal, decimalIn}
 use Rattle.wcdma_shape.specs.Rectangle.{rows, primes, firstPrime, prime, colsOf, cols, cells}
 use Rattle.wcdma.specs.Turbo.{padCells}
 use Rattle.wcdma_report.specs.declared.Figures.{Figures}
-use Rattle.wcdma_report.specs.declared.Totals.{Totals}
 use Rattle.wcdma_report.specs.Sum.{sum}
 use Rattle.wcdma_report.specs.Report.{figures, totals, Between}
 use Rattle.wcdma_report.specs.Figured.{figures-are}
 use Rattle.report_asked.specs.Lines.{lineOf, ended, behind, numberIn}
-use Rattle.report_asked.specs.Asked.{range, rangeOf, askedBy}
+use Rattle.report_asked.specs.Asked.{rangeOf, askedBy}
 use Rattle.report_asked.specs.Exactly.{TwoLines, asked-exactly, refused-exactly}
 use Rattle.report_pages.specs.Text.{headText, fieldText, rowText, rowsText, totalText, reportText, refusalText, answerText}
 

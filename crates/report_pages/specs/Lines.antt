@@ -1,7 +1,7 @@
 -- What the calls of the library give inside the range, and the loop over the lines. Rests on Text.
-use Prim.Native.Nat.{ℕ, zero, suc, _+_, _-_, _≤_, _<_}
-use mathlib.Core.List.{List, []}
-use mathlib.Core.Path.{_≡_, refl, sym, ap, subst, _∙_}
+use Prim.Native.Nat.{ℕ, suc, _+_, _-_, _≤_, _<_}
+use mathlib.Core.List.{List}
+use mathlib.Core.Path.{_≡_, _∙_}
 use native.Mathlib.Omega.{arith}
 use Rattle.laws.specs.Outcome.{Outcome, done, refused}
 use Rattle.wcdma_shape.specs.Rectangle.{Size}

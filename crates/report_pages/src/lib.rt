@@ -2,8 +2,6 @@
 mod taken; // taken.rt: the bytes of the two lines, and no byte after them
 pub mod text; // text.rt: the text that they give
 
-use libc::STDOUT_FILENO;
-use report_asked::Asked;
 use taken::Taken;
 use words::text::ROOM;
 

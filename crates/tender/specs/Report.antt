@@ -10,11 +10,11 @@ use Rattle.laws.specs.Sentences.{FirstTrue}
 use Rattle.sizes.specs.Size.{size}
 use Rattle.sizes.specs.Tests.{sizeListed}
 use Rattle.sets.specs.Verdict.{refusal, refusal-number}
-use Rattle.wcdma_shape.specs.Rectangle.{Size, rows, cols, cells}
+use Rattle.wcdma_shape.specs.Rectangle.{rows, cols, cells}
 use Rattle.wcdma.specs.Turbo.{padCells}
 use Rattle.wcdma.specs.Pads.{cells-are}
 use Rattle.wcdma_report.specs.Sum.{sum}
-use Rattle.wcdma_report.specs.Report.{isSize, turboSet, figures, totals, figuresLines, totalsLines, figuresOf, totalsOf, Between}
+use Rattle.wcdma_report.specs.Report.{isSize, turboSet, figures, totals, figuresLines, totalsLines, figuresOf, totalsOf}
 use Rattle.wcdma_report.specs.Refusals.{figuresSentences, totalsSentences}
 use Rattle.wcdma_report.specs.Refusals as law
 use Rattle.wcdma_report.specs.Sized as sized

@@ -1,10 +1,10 @@
 -- The padding report from the bytes of standard input to its text, request 11: "each line in decimal", `refused 3` for all else, "the second line may end
 -- with the input, and nothing after it is read", and the whole output.
-use Prim.Native.Nat.{ℕ, _<_}
+use Prim.Native.Nat.{ℕ}
 use mathlib.Core.Bool.{true, false}
 use mathlib.Core.List.{List, [], _∷_, _++_}
 use mathlib.Core.Logic.{_↔_}
-use mathlib.Core.Path.{_≡_, sym, ap, _∙_}
+use mathlib.Core.Path.{_≡_, ap}
 use Rattle.laws.specs.Outcome.{done, refused}
 use Rattle.wcdma_report.specs.Report.{Between}
 use Rattle.report_asked.specs.Asked.{range, askedBy, settledBy}

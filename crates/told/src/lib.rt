@@ -123,7 +123,9 @@ pub fn usage(c: Command) {
         Command::Combine => expected(
             b"combine PROFILE BITS N FILE ... [stream=I] [f1=F f2=G], each an argument of its own",
         ),
-        Command::Padding => expected(b"padding, and the first K and the last on two lines of standard input"),
+        Command::Padding => expected(
+            b"padding, and the first K and the last on two lines of standard input",
+        ),
         Command::Judge => expected(b"judge FILE"),
         Command::Differ => expected(b"differ FILE FILE"),
         Command::Plans => expected(

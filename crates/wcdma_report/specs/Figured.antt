@@ -1,12 +1,11 @@
 -- A line of the report from R and C: its cells are R·C, and its padding is what K leaves of them. Rests on Report.
 use Prim.Native.Nat.{ℕ, _*_, _-_, _≤_}
-use mathlib.Core.Path.{_≡_, ap, ap₂, _∙_}
+use mathlib.Core.Path.{_≡_, ap₂}
 use native.Mathlib.Omega.{arith}
 use Rattle.wcdma_shape.specs.Rectangle.{Size, rows, cols, cells}
 use Rattle.wcdma_shape.specs.Shape.{rows-le, cols-high, prime-small, product-small, fits}
 use Rattle.wcdma.specs.Turbo.{padCells}
 use Rattle.wcdma.specs.Pads.{cells-are}
-use Rattle.wcdma_report.specs.declared.Figures.{Figures}
 use Rattle.wcdma_report.specs.Report.{figures}
 
 module _ {k r c : ℕ} (s : Size k) (er : r ≡ rows k) (ec : c ≡ cols k) where

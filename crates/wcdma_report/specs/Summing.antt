@@ -7,7 +7,6 @@ use Rattle.wcdma_shape.specs.Rectangle.{Size, cells}
 use Rattle.wcdma_shape.specs.Shape.{cells-le}
 use Rattle.wcdma.specs.Turbo.{padCells}
 use Rattle.wcdma.specs.Pads.{cells-are}
-use Rattle.wcdma_report.specs.declared.Totals.{Totals}
 use Rattle.wcdma_report.specs.Sum.{sum, sum-none, sum-more, sum-le}
 use Rattle.wcdma_report.specs.Report.{Between, totals}
 
@@ -32,8 +31,11 @@ module _ {first last : ℕ} (b : Between first last) where
 
     pub pads-fit : sumPads ≤ sizes * 5160
     pads-fit =
-        omega (arith, s .pads-in,
-        sum-le padCells 5160 first sizes (λ k l m. omega (arith, cells-le k, cells-are k (omega (arith, b .high, s .here, s .over)))))
+        omega (
+          arith,
+          s .pads-in,
+          sum-le padCells 5160 first sizes (λ k l m. omega (arith, cells-le k, cells-are k (omega (arith, b .high, s .here, s .over)))),
+        )
 
     pub sizes-few : sizes ≤ 5075
     sizes-few = omega (arith, b .low, b .high, s .here, s .over)

@@ -1,12 +1,11 @@
 -- The whole range, computed from the definitions: for 40 and 5,114 the totals are 5,075 sizes, 13,265,345 cells and 187,070 padding. And that in every
 -- range the cells are the sizes themselves and the padding. Rests on Sum and Report.
-use Prim.Native.Nat.{ℕ, suc, _+_, _-_, _≤_, _<_}
+use Prim.Native.Nat.{ℕ, _+_}
 use mathlib.Core.Path.{_≡_, refl}
 use native.Mathlib.Omega.{arith}
 use Rattle.wcdma_shape.specs.Rectangle.{rows, primes, firstPrime, prime, colsOf, cols, cells}
 use Rattle.wcdma.specs.Turbo.{padCells}
 use Rattle.wcdma.specs.Pads.{cells-are}
-use Rattle.wcdma_report.specs.declared.Totals.{Totals}
 use Rattle.wcdma_report.specs.Sum.{sum, sum-adds}
 use Rattle.wcdma_report.specs.Report.{Between, sizesIn, totals}
 

@@ -1,6 +1,5 @@
 -- `line_end` is where the first LF stands, or the end.
 use Prim.Native.Nat.{_-_}
-use native.Mathlib.Omega.{arith}
 use lib.ListN.{length}
 use borrow.Author.Needs.{needs}
 use Rattle.report_asked.specs.Split.{Looking, looking-first, looked-out, looked-found, looked-on}

@@ -1,5 +1,4 @@
 -- `number_in` is the number of a line.
-use mathlib.Core.Path.{_∙_, sym}
 use borrow.Author.Needs.{needs}
 use borrow.Author.Tests.{lt-ltb, le-ltb}
 use Rattle.report_asked.specs.Lines.{numberIn}

@@ -1,9 +1,7 @@
 -- `take` reads no byte once what is asked for is settled.
 use Prim.Native.Nat.{_-_}
-use mathlib.Core.Path.{_≡_, sym, ap, _∙_}
-use mathlib.Core.Bool.{false}
+use mathlib.Core.Path.{sym, ap, _∙_}
 use native.Mathlib.Omega.{arith}
-use lib.ListN.{take}
 use borrow.Author.Needs.{needs}
 use Rattle.report_asked.specs.Asked.{settledBy}
 use Rattle.report_pages.specs.Taken.{Read, read-none, read-more}
