@@ -1,6 +1,6 @@
 /* The harness: a row by one side, and its times; rows.c has the rows of the table, and check.c compares the sides. Every side is called through a pointer, across
    object files. bench/run starts it:
-     bench rows                   a line for each row: its number, its addresses, bytes, values, positions or calls, its name
+     bench rows                   a line for each row: its number, its addresses, bytes, values, positions, sizes or calls, its name
      bench check                  compares each side's output with ours; ends with one line and status 1 where one differs
      bench repeat ROW SIDE TIMES  runs one side of a row so often, to have its instructions counted
      bench time ROW ROUNDS MS     prints ours/dividing and ours/stepping: the best of so many rounds, each of at least so many milliseconds */
@@ -12,6 +12,7 @@ add_call interleaver_add_received;
 read_call interleaver_read_sum;
 judge_call interleaver_judge_plan;
 write_call interleaver_write_plans;
+totals_call interleaver_wcdma_totals;
 feed_call interleaver_stream_interleave, interleaver_stream_deinterleave;
 uint32_t interleaver_stream_start(uint32_t kind, uint8_t *store, size_t, uint8_t fill, uint32_t *record);
 
@@ -46,6 +47,7 @@ static add_call *const adds[SIDES] = {interleaver_add_received, divide_add, step
 read_call *const reads[SIDES] = {interleaver_read_sum, plain_read, plain_read};
 static judge_call *const judges[SIDES] = {interleaver_judge_plan, divide_judge, step_judge};
 static write_call *const writes[SIDES] = {interleaver_write_plans, divide_write, step_write};
+totals_call *const totals[SIDES] = {interleaver_wcdma_totals, plain_totals, plain_totals};
 
 struct area areas[SIDES];
 _Alignas(64) uint8_t input[BYTE];
@@ -130,6 +132,8 @@ uint32_t once(const struct row *r, int side)
     struct area *a = areas + side;
     if (stream_of(r) != 0)
         return feeds[r->kind][side](a->record, a->store, streams[r->kind].store, input, r->length, a->bytes, r->length);
+    if (r->kind == TOTALS)
+        return totals[side](40, 39 + r->length, a->totals);
     uint32_t refused = 0;
     for (const struct set *s = sets + r->from; s < sets + r->from + r->sets && refused == 0; s++) {
         if (r->kind <= LTE)
@@ -148,10 +152,10 @@ uint32_t once(const struct row *r, int side)
     return refused;
 }
 
-/* How many addresses, bytes, values or positions that makes; calls where there is no room. */
+/* How many addresses, bytes, values, positions or sizes that makes; calls where there is no room. */
 static uint32_t amount(const struct row *r)
 {
-    uint32_t sum = stream_of(r) != 0 ? r->length : 0;
+    uint32_t sum = stream_of(r) != 0 || r->kind == TOTALS ? r->length : 0;
     for (uint32_t i = 0; i < r->sets; i++)
         sum += r->length == NO_ROOM ? 1 : sets[r->from + i].n;
     return sum;

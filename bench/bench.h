@@ -5,10 +5,12 @@
 
 enum { OURS, DIVIDE, STEP, SIDES };
 enum kind { WALK, WRITTEN_OUT, SPATIAL, SPATIAL_M, LTE, BYTES, SOFT, SPATIAL_BYTES, LTE_BYTES, LTE_SOFT, DVB, DVB_BACK, ATSC, ATSC_BACK, JUDGE, WRITE,
-            ADD, ADD_SOME, READ };
+            TOTALS, ADD, ADD_SOME, READ };
 extern read_call *const reads[SIDES];
+extern totals_call *const totals[SIDES];
 
-/* A row: some sets in a row from the list of sets, the room of a walk (0: a whole block; NO_ROOM: none), or the length of a feed. */
+/* A row: some sets in a row from the list of sets, the room of a walk (0: a whole block; NO_ROOM: none), or the length of a feed, or how many sizes
+   from K 40 on are totalled. */
 enum { NO_ROOM = 65536 };
 struct row { enum kind kind; uint32_t from, sets, length; char name[80]; };
 extern struct set sets[96];
@@ -34,6 +36,7 @@ struct area {
     uint16_t count;
     uint32_t record[RECORD], cell, cells, turn;
     uint32_t first, wrong, plan, length; /* a judgement, the plan that is judged, and how long the file in bytes is */
+    uint32_t totals[3];
 };
 extern struct area areas[SIDES];
 extern uint8_t input[BYTE];

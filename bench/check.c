@@ -16,9 +16,9 @@ static long differs(int side)
 static int complain(const struct row *r, int side, long at)
 {
     static const struct { size_t from; const char *name; } parts[] = {
-        {offsetof(struct area, first), "the judgement"}, {offsetof(struct area, cell), "the cells"}, {offsetof(struct area, sum), "the reading"},
-        {offsetof(struct area, counts), "the counts"}, {offsetof(struct area, sums), "the sums"}, {offsetof(struct area, store), "the store"},
-        {offsetof(struct area, bytes), "the output"}};
+        {offsetof(struct area, totals), "the totals"}, {offsetof(struct area, first), "the judgement"}, {offsetof(struct area, cell), "the cells"},
+        {offsetof(struct area, sum), "the reading"}, {offsetof(struct area, counts), "the counts"}, {offsetof(struct area, sums), "the sums"},
+        {offsetof(struct area, store), "the store"}, {offsetof(struct area, bytes), "the output"}};
     size_t i = (size_t)at, part = 0;
     if (i < offsetof(struct area, bytes))
         return printf("bench: %s: %s has address %u at place %zu, ours %u\n", r->name, side_names[side], areas[side].list[i / 2], i / 2,
@@ -151,7 +151,19 @@ static int check_record(const struct row *r)
     return same ? 0 : (printf("bench: %s: our record is not where the stepping C's is\n", r->name), 1);
 }
 
-/* Each set of a row by itself, and of a stream a few short feeds first, so that a feed begins in the middle. */
+/* Each size by itself. */
+static int check_totals(const struct row *r)
+{
+    for (uint32_t k = 40; k <= 5114; k++)
+        for (int side = 0; side < SIDES; side++) {
+            uint32_t *got = areas[side].totals, *ours = areas[OURS].totals;
+            if (totals[side](k, k, got) != 0 || got[0] != ours[0] || got[1] != ours[1] || got[2] != ours[2])
+                return printf("bench: %s: %s has other figures of K %u than ours\n", r->name, side_names[side], k), 1;
+        }
+    return 0;
+}
+
+/* Each set of a row by itself, and of a stream a few short feeds first, so that a feed begins in the middle; of totals a few short ranges. */
 int check(const struct row *whole)
 {
     static const uint32_t before[] = {1, 5, 203, 24, 1999, 0};
@@ -173,5 +185,5 @@ int check(const struct row *whole)
         if (r.kind == JUDGE ? check_judge(&r) : unlike(&r, 0) || (stream_of(&r) != 0 && check_record(&r)))
             return 1;
     }
-    return whole->kind == READ ? check_read(whole) : whole->kind >= ADD ? check_add(whole) : 0;
+    return whole->kind == TOTALS ? check_totals(whole) : whole->kind == READ ? check_read(whole) : whole->kind >= ADD ? check_add(whole) : 0;
 }

@@ -1,5 +1,6 @@
 /* Walks and block moves in plain C, dividing and stepping: what a competent engineer writes from document 01 and change request 1. */
 #include "plain_carrier.h"
+#include "plain_primes.h"
 
 /* WCDMA: what a block is set up with. s is S, less 1 where C = p - 1; base is T(i) * C. A prime q has a divisor in common with p - 1 only
    where it divides it, and the list of primes begins with 7. */
@@ -7,9 +8,6 @@ struct plan { uint32_t k, r, p, c, q[20], base[20]; uint16_t s[256]; };
 
 static void plan_of(uint32_t k, struct plan *b)
 {
-    static const uint16_t primes[52] = {
-        7, 11, 13, 17, 19, 23, 29, 31, 37, 41, 43, 47, 53, 59, 61, 67, 71, 73, 79, 83, 89, 97, 101, 103, 107, 109, 113, 127, 131, 137, 139, 149,
-        151, 157, 163, 167, 173, 179, 181, 191, 193, 197, 199, 211, 223, 227, 229, 233, 239, 241, 251, 257};
     static const uint8_t roots[52] = {3, 2, 2, 3, 2, 5, 2, 3, 2, 6, 3, 5, 2, 2, 2, 2, 7, 5, 3, 2, 3, 5, 2, 5, 2, 6,
                                       3, 3, 2, 3, 2, 2, 6, 5, 2, 5, 2, 2, 2, 19, 5, 2, 3, 2, 3, 2, 6, 3, 7, 7, 6, 3};
     static const uint8_t orders[2][20] = {{19, 9, 14, 4, 0, 2, 5, 7, 12, 18, 16, 13, 17, 15, 3, 1, 6, 11, 8, 10},

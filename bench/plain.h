@@ -68,4 +68,8 @@ typedef uint32_t feed_call(uint32_t *record, uint8_t *store, size_t, const uint8
 feed_call divide_dvb, divide_dvb_back, divide_atsc, divide_atsc_back, step_dvb, step_dvb_back, step_atsc, step_atsc_back;
 void step_start(uint32_t *record, uint32_t branches, uint32_t step, int back);
 
+/* The padding report's totals from a first K to a last: how many sizes, their cells and their padding. */
+typedef uint32_t totals_call(uint32_t first, uint32_t last, uint32_t *totals);
+totals_call plain_totals;
+
 #endif

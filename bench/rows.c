@@ -86,6 +86,7 @@ void lay_out(void)
     add_row(JUDGE, TURBO_5114, 1, 0, "judge a plan", "");
     add_row(WRITE, WLAN_6_288, 1, 0, "write a plan", "");
     add_row(WRITE, TURBO_5114, 1, 0, "write a plan", "");
+    add_row(TOTALS, 0, 0, 5075, "totals of the padding report", "");
     shown = row_count;
     for (int i = 0; i < 4; i++)
         add_row(i < 2 ? SPATIAL : SPATIAL_M, HT, 32, i % 2 * 7, i < 2 ? "walk, profiles 6 and 7" : "walk for M, profiles 6 and 7",

@@ -64,6 +64,7 @@ gives '9999 and 9999' '9999\n9999\n' 'refused 3' '9999\n'
 gives 'five digits' '00040\n41\n' 'refused 3' '\n41\n'
 gives 'five digits in the second line' '40\n00041\n' 'refused 3' '\n'
 gives 'five digits that end with the input' '40\n00041' 'refused 3' ''
+gives 'four digits, then five' '1000\n20005\n' 'refused 3' '\n'
 gives 'an empty first line' '\n41\n' 'refused 3' '41\n'
 gives 'an empty second line' '40\n\n41\n' 'refused 3' '41\n'
 gives 'two empty lines' '\n\n' 'refused 3' '\n'
@@ -110,20 +111,30 @@ for k in 40 41 480 481 530 531 2281 5114; do
     cells=$(./interleaver walk 5 1 "$k" 0 6000 | sed -n 's/.* cells //p')
     # shellcheck disable=SC2086
     set -- $line
-    [ "$1" -eq "$k" ] && [ "$4" -eq "$cells" ] && [ "$5" -eq $((cells - k)) ]
+    [ "${1:-}" = "$k" ] && [ "${4:-}" = "$cells" ] && [ "${5:-}" = $((cells - k)) ]
     expect "cells and padding of $k as they are walked" $?
 done
 
-# nothing is waited for: a pipe that stays open, as a person's terminal does
-mkfifo "$work/pipe"
-exec 5<>"$work/pipe"
-for lines in '40\n41\n' '39\n' '4 0' '00040' '\n' '40\n00041'; do
+# nothing is waited for behind the byte that decides, which is the last of each: a pipe that stays open, as a person's terminal does
+waits() {
+    mkfifo "$work/pipe"
+    exec 5<>"$work/pipe"
     # shellcheck disable=SC2059
-    printf "$lines" >&5
+    printf "$2" >&5
     timeout 10 ./interleaver padding <"$work/pipe" >"$work/got" 2>&1
-    expect "padding waits for nothing behind $lines" $?
-done
-exec 5>&-
+    printf '%s\n' "$3" | cmp -s - "$work/got"
+    expect "padding of $1 waits for nothing" $?
+    exec 5>&-
+    rm "$work/pipe"
+}
+waits '40 and 41' '40\n41\n' "$two"
+waits '39' '39\n' 'refused 3'
+waits 'a space' '4 ' 'refused 3'
+waits 'five digits' '00040' 'refused 3'
+waits 'an empty line' '\n' 'refused 3'
+waits 'an empty second line' '40\n\n' 'refused 3'
+waits 'five digits in the second line' '40\n00041' 'refused 3'
+waits 'a CR' '40\n41\r' 'refused 3'
 
 # under a second for all sizes, where the machine is the program's own
 if [ "$(uname -m)" = x86_64 ]; then
@@ -133,22 +144,20 @@ if [ "$(uname -m)" = x86_64 ]; then
 fi
 
 # a read or a write that fails is told, and a read that fails prints nothing
-./interleaver padding <&- >"$work/got" 2>"$work/said"
+timeout 10 ./interleaver padding <"$work" >"$work/got" 2>"$work/said"
 [ $? -eq 1 ] && [ ! -s "$work/got" ] && said 'interleaver: reading'
-expect 'padding with no standard input' $?
+expect 'padding of what cannot be read' $?
 printf '40\n5114\n' | ./interleaver padding >/dev/full 2>"$work/said"
 [ $? -eq 1 ] && said 'interleaver: writing'
 expect 'padding to a full device' $?
 
 # the program by itself gives the same
-padding=$(sed -n 's|^program=.*/target|target|p' interleaver)
-padding=${padding%/*}/padding
+rt check padding >/dev/null 2>&1 </dev/null
 tools=${RATTLE_HOME:-$(dirname "$(dirname "$(readlink -f "$(command -v rt)")")")}/on/$(uname -m)/toolchain
 emulator=$tools/bin/qemu-x86_64
 [ -x "$emulator" ] || emulator=''
 printf '40\n41\nmore' | {
-    ${emulator:+"$emulator"} "$tools/lib/ld-linux-x86-64.so.2" --library-path "$tools/lib" "$padding"
-    cat
+    ${emulator:+"$emulator"} "$tools/lib/ld-linux-x86-64.so.2" --library-path "$tools/lib" target/bin/padding && cat
 } >"$work/got"
 printf '%s\nmore' "$two" | cmp -s - "$work/got"
 expect 'the program padding by itself' $?

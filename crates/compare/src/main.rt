@@ -1,10 +1,11 @@
 // Compares every whole list with a second computation of it, which divides at each address and shares no function with the walk: all sets
 // of profiles 1 to 4, 6 and 7, every K of 5 and every K of 8 with LTE's own factors, whole and in slices; the test of f1 and f2 with trying all
-// positions, for every K of 8 up to 128; the size that refusal 3 carries with going through all sizes; and for sixteen sets shorter slices, blocks
-// of bytes and single addresses. Each comparison is tried on a list that is wrong on purpose as well, and has to count differences there; every K on
-// its list without the exchange of full rectangles, to count the sizes that the exchange touches; the sets of 6 and 7 on their lists with no stream
-// turned, to count those that are; those of 8 on their lists with t for t², and its test with f1 and f2 exchanged; and the sizes that are carried, on
-// the greatest listed ones below.
+// positions, for every K of 8 up to 128; the size that refusal 3 carries with going through all sizes; the figures and totals of the padding report with
+// what is counted over the lists of 5; and for sixteen sets shorter slices, blocks of bytes and single addresses. Each comparison is tried on a list that
+// is wrong on purpose as well, and has to count differences there; every K on its list without the exchange of full rectangles, to count the sizes that
+// the exchange touches; the sets of 6 and 7 on their lists with no stream turned, to count those that are; those of 8 on their lists with t for t², and
+// its test with f1 and f2 exchanged; the sizes that are carried, on the greatest listed ones below; and the padding report, on the lists of the next
+// sizes.
 mod chosen;
 mod count;
 mod decided;
@@ -12,6 +13,7 @@ mod fitted;
 mod lists;
 mod moves;
 mod num;
+mod report;
 mod slices;
 
 use chosen::sixteen_at;
@@ -116,6 +118,10 @@ fn main() {
         b"the size that refusal 3 carries against all sizes gone through, profiles 0 to 9, bits 0 to 7, N 0 to 6200",
         false,
     );
+    let reported = report::show(
+        b"the padding report against what is counted over the lists, every K of profile 5 and 290 totals",
+        0,
+    );
     let sixteen = sum(sixteen_walks(), sixteen_moves());
     lists::wrong_walk();
     wrong_block();
@@ -132,6 +138,10 @@ fn main() {
     lists::wrong_square();
     decided::show(b"wrong on purpose, the test of f2 and f1", true);
     fitted::show(b"wrong on purpose, the greatest listed size below", true);
+    report::show(
+        b"wrong on purpose, the padding report against the lists of the next sizes",
+        1,
+    );
     let lists = sum(sum(sum(carriers, turbos), spatials), lte);
-    count::last_line(sum(sum(lists, fitting), sixteen));
+    count::last_line(sum(sum(sum(lists, fitting), reported), sixteen));
 }

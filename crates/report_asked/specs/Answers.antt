@@ -12,7 +12,7 @@ use Rattle.numbers.specs.declared.Number.{Number}
 use Rattle.numbers.specs.declared.Number.the-variants.{Value, Wrong}
 use Rattle.wcdma_report.specs.Report.{isSize, isRange}
 use Rattle.report_asked.specs.Lines.{lineOf, ended, behind, numberIn, begins}
-use Rattle.report_asked.specs.Asked.{range, rangeOf, askedBy, askedLast, settledLast, settledBy}
+use Rattle.report_asked.specs.Asked.{range, rangeOf, askedBy, askedLast, settledBy}
 use Rattle.report_asked.specs.Split.{line-le, take-line, drop-line, ended-before, ended-not}
 
 -- e is where the first line of s ends, and n the number that it says
@@ -31,12 +31,6 @@ module _ (s : List ℕ) {e : ℕ} (end-is : e ≡ length (lineOf s)) where
     pub settled-unended : {b : Bool} → b ≡ begins s → not b ≡ settledBy s
     unfolding settledBy
     settled-unended q = simp (unended, q)
-
-    pub last-unended : {b : Bool} → b ≡ begins s → not b ≡ settledLast s
-    last-unended q = simp (unended, q)
-
-  pub last-ended : e < length s → true ≡ settledLast s
-  last-ended h = simp (ended-before s (omega arith))
 
   module _ {n : Number} (said : n ≡ numberIn (take e s)) where
     said-is : numberIn (lineOf s) ≡ n
@@ -77,9 +71,9 @@ module _ (s : List ℕ) {e : ℕ} (end-is : e ≡ length (lineOf s)) where
         unfolding settledBy
         settled-out r = rw (ended-before s (omega arith), said-is, q, r)
 
-        pub settled-in : isSize first ≡ true → settledLast (take (length s - (e + 1)) (drop (e + 1) s)) ≡ settledBy s
+        pub settled-in : isSize first ≡ true → {b : Bool} → b ≡ begins (take (length s - (e + 1)) (drop (e + 1) s)) → not b ≡ settledBy s
         unfolding settledBy
-        settled-in r = rw (behind-is, ended-before s (omega arith), said-is, q, r)
+        settled-in r t = rw (ended-before s (omega arith), said-is, q, r) (ap not (t ∙ ap begins behind-is))
 
 -- whether a line may begin so
 module _ (s : List ℕ) where

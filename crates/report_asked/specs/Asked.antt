@@ -1,7 +1,7 @@
 -- What two lines ask for, request 11: "A line missing or not one to four digits, a first above the last, or either not 40 to 5,114 gives [..] `refused 3`;
 -- the second line may end with the input, and nothing after it is read." And when bytes settle it. These are definitions.
 use Prim.Native.Nat.{ℕ}
-use mathlib.Core.Bool.{Bool, true, false, cond, not, _||_}
+use mathlib.Core.Bool.{Bool, true, false, cond, not}
 use mathlib.Core.List.{List}
 use Rattle.laws.specs.Outcome.{Outcome, done, refused, judged}
 use Rattle.numbers.specs.declared.Number.{Number}
@@ -34,15 +34,12 @@ abbrev pub sayAsked : Asked → Outcome ℕ Range
 sayAsked (Of r) = done r
 sayAsked (Refused k) = refused k
 
--- the bytes of the second line settle it: it has ended, or has begun as no line may
-abbrev pub settledLast : List ℕ → Bool
-settledLast s = ended s || not (begins s)
-
 -- the first line's number goes on to the second line
 abbrev pub isSizeIn : Number → Bool
 isSizeIn (Value v) = isSize v
 isSizeIn Wrong = false
 
--- the bytes settle it: the first line has begun as no line may, or it has ended and says no size, or the second line's bytes settle it
+-- the bytes settle it: the first line has begun as no line may, or it has ended and says no size, or the second has begun as no line may. (A line that
+-- has ended holds an LF, and has begun so too.)
 unfoldable pub settledBy : List ℕ → Bool
-settledBy s = cond (ended s) (cond (isSizeIn (numberIn (lineOf s))) (settledLast (behind s)) true) (not (begins s))
+settledBy s = cond (ended s) (cond (isSizeIn (numberIn (lineOf s))) (not (begins (behind s))) true) (not (begins s))

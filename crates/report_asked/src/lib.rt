@@ -1,9 +1,8 @@
 // What the padding report is asked for, request 11: two lines, the first K and the last. Over the bytes alone; where they come from is the program's.
 ghost use mathlib.Core.Path.{_≡_};
-ghost use Prim.Native.Nat.{_≤_};
 ghost use lib.ListN.{length};
-ghost use Rattle.report_asked.specs.Lines.{lineOf, ended, numberIn, begins};
-ghost use Rattle.report_asked.specs.Asked.{askedBy, sayAsked, askedLast, settledBy, settledLast};
+ghost use Rattle.report_asked.specs.Lines.{lineOf, numberIn, begins};
+ghost use Rattle.report_asked.specs.Asked.{askedBy, sayAsked, askedLast, settledBy};
 use numbers::Number;
 
 // A first K and a last.
@@ -84,18 +83,8 @@ pub fn read(s: &[u8]) -> Asked
     asked_last(first, &s[e + 1..])
 }
 
-// The same of the second line.
-fn settled_last(s: &[u8]) -> bool
-    ensures { λ r. ⌜ r ≡ settledLast (now (s .entry)) ⌝ }
-{
-    let e = line_end(s);
-    if e < s.len() {
-        return true;
-    }
-    !can_begin(s)
-}
-
-// Whether the bytes so far settle what is asked for, whatever follows them: a line has ended that is no size, or both have ended, or one has begun as no line may.
+// Whether the bytes so far settle what is asked for, whatever follows them: the first line has begun as no line may, or has ended and says no size, or the
+// second has begun as no line may. (A line that has ended holds an LF, and begins so too.)
 pub fn settled(s: &[u8]) -> bool
     ensures { λ r. ⌜ r ≡ settledBy (now (s .entry)) ⌝ }
 {
@@ -109,5 +98,5 @@ pub fn settled(s: &[u8]) -> bool
     if !wcdma_report::is_size(first) {
         return true;
     }
-    settled_last(&s[e + 1..])
+    !can_begin(&s[e + 1..])
 }

@@ -1,16 +1,19 @@
-// The bytes of the two lines. Each is read by itself, and none is read once what is asked for is settled: whatever else waits in standard input is left
-// there, and nothing is waited for.
+// The bytes of the two lines. Each is asked for by itself, and none once those before it settle what is asked for: whatever else waits in standard input
+// is left there, and nothing behind that is waited for.
 use libc::STDIN_FILENO;
 use lines::first;
 use report_asked::settled;
+ghost use mathlib.Core.Path.{_≡_};
+ghost use lib.ListN.{length};
 ghost use Rattle.report_pages.specs.Taken.{TakenBy};
 
 // What was read settles what is asked for before it is longer.
 pub(super) const MOST: usize = 10;
 
-// So many bytes; or a read failed, which has been told.
+// So many bytes, which settle it; so many, with which standard input ended; or a read failed, which has been told.
 pub(super) enum Taken {
-    Of(usize),
+    Settled(usize),
+    Ended(usize),
     Failed,
 }
 
@@ -34,20 +37,22 @@ fn next_byte() -> Next {
     Next::Byte(one[0])
 }
 
-pub(super) fn take(room: &mut [u8; MOST]) -> Taken
+// Takes them into a room of ten.
+pub(super) fn take(room: &mut [u8]) -> Taken
+    requires { ⌜ length (now room) ≡ 10 ⌝ }
     ensures { λ r. ⌜ TakenBy (now (room .exit)) r ⌝ }
 {
     let mut at = 0;
     while at < MOST {
         if settled(first(room, at)) {
-            return Taken::Of(at);
+            return Taken::Settled(at);
         }
         match next_byte() {
             Next::Byte(b) => {
                 room[at] = b;
             }
             Next::End => {
-                return Taken::Of(at);
+                return Taken::Ended(at);
             }
             Next::Failed => {
                 return Taken::Failed;
@@ -55,5 +60,5 @@ pub(super) fn take(room: &mut [u8; MOST]) -> Taken
         }
         at += 1;
     }
-    Taken::Of(at)
+    Taken::Settled(at)
 }

@@ -1,4 +1,5 @@
 // The text of the report, to the letter: it is gathered in the room, and written where that is full.
+use super::taken::MOST;
 use report_asked::Asked;
 use wcdma_report::Figures;
 use wcdma_report::Reported;
@@ -8,6 +9,7 @@ use words::text::ROOM;
 use words::text::put;
 use words::text::put_number;
 ghost use Prim.Native.Nat.{_≤_};
+ghost use lib.ListN.{take};
 ghost use Rattle.words.specs.Gathered.{Put};
 ghost use Rattle.wcdma_shape.specs.Rectangle.{Size};
 ghost use Rattle.wcdma_report.specs.Report.{Between, figures, totals, sizesIn};
@@ -100,4 +102,11 @@ pub fn put_answer(room: &mut [u8; ROOM], bytes: &[u8]) -> usize
         Asked::Of(r) => put_report(room, r.first, r.last),
         Asked::Refused(k) => put_refusal(room, k),
     }
+}
+
+// What the first n of the bytes that were read give.
+pub(super) fn put_taken(room: &mut [u8; ROOM], bytes: &[u8; MOST], n: usize) -> usize
+    ensures { λ r. ⌜ Put (now (room .entry)) 0 (answerText (take n (now (bytes .entry)))) (now (room .exit)) r ⌝ }
+{
+    put_answer(room, lines::first(bytes, n))
 }

@@ -143,6 +143,20 @@ fn turbo_cells(set: Set, exchange: bool, table: &mut [u16], list: &mut [u16]) ->
     }
 }
 
+// R and C of a size of profile 5.
+pub struct Sides {
+    pub rows: usize,
+    pub columns: usize,
+}
+
+pub fn sides_of(k: usize) -> Sides {
+    let rows = turbo::rows(k);
+    Sides {
+        rows,
+        columns: turbo::columns(k, rows, turbo::prime_of(k, rows)),
+    }
+}
+
 fn turbo_list(set: Set, exchange: bool, list: &mut [u16]) -> Whole {
     let mut table = [0u16; 400];
     turbo_cells(set, exchange, &mut table, list)

@@ -70,7 +70,7 @@ pub struct Grid {
     pub exchanges: bool,
 }
 
-fn rows(k: usize) -> usize {
+pub(super) fn rows(k: usize) -> usize {
     if k < 160 {
         return 5;
     }
@@ -87,7 +87,7 @@ fn rows(k: usize) -> usize {
 }
 
 // p: the least prime from 7 on with K ≤ R·(p + 1); 53 for K 481 to 530.
-fn prime_of(k: usize, r: usize) -> usize {
+pub(super) fn prime_of(k: usize, r: usize) -> usize {
     if r == 10 {
         if 480 < k {
             return 53;
@@ -105,7 +105,7 @@ fn prime_of(k: usize, r: usize) -> usize {
     p
 }
 
-fn columns(k: usize, r: usize, p: usize) -> usize {
+pub(super) fn columns(k: usize, r: usize, p: usize) -> usize {
     if r == 10 {
         if 480 < k {
             return 53;

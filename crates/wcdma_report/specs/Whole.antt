@@ -1,19 +1,13 @@
--- The whole range, computed from the definitions: for 40 and 5,114 the totals are 5,075 sizes, 13,265,345 cells and 187,070 padding. And that in every
--- range the cells are the sizes themselves and the padding. Rests on Sum and Report.
-use Prim.Native.Nat.{ℕ, _+_}
+-- The whole range, computed from the definitions: for 40 and 5,114 the totals are 5,075 sizes, 13,265,345 cells and 187,070 padding: the cells are the
+-- sizes themselves, added up, and the padding. Rests on Sum and Report.
+use Prim.Native.Nat.{_+_}
 use mathlib.Core.Path.{_≡_, refl}
 use native.Mathlib.Omega.{arith}
 use Rattle.wcdma_shape.specs.Rectangle.{rows, primes, firstPrime, prime, colsOf, cols, cells}
 use Rattle.wcdma.specs.Turbo.{padCells}
 use Rattle.wcdma.specs.Pads.{cells-are}
 use Rattle.wcdma_report.specs.Sum.{sum, sum-adds}
-use Rattle.wcdma_report.specs.Report.{Between, sizesIn, totals}
-
--- the cells of a range are its K added up, and its padding
-pub cells-add-up : {first last : ℕ} → Between first last → totals first last .cells ≡ sum (λ k. k) first (sizesIn first last) + totals first last .pads
-unfolding totals
-cells-add-up {first} {last} b =
-    sum-adds cells (λ k. k) padCells first (sizesIn first last) (λ k l h. cells-are k (omega (arith, b .rising, b .high)))
+use Rattle.wcdma_report.specs.Report.{totals}
 
 all-cells : sum cells 40 5075 ≡ 13265345
 unfolding sum rows primes firstPrime prime colsOf cols cells

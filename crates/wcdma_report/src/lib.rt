@@ -42,7 +42,7 @@ pub fn is_size(k: u32) -> bool
     (40 <= k) & (k <= 5114)
 }
 
-// Whether a first K and a last are both, and the first isn't above the last.
+// Whether a first K and a last are both 40 to 5,114, and the first isn't above the last.
 pub fn is_range(first: u32, last: u32) -> bool
     ensures { λ r. ⌜ r ≡ isRange first last ⌝ }
 {
@@ -73,7 +73,7 @@ fn figures_in(k: u32) -> Figures
     requires { ⌜ Size k ⌝ }
     ensures { λ r. ⌜ r ≡ figures k ⌝ }
 {
-    let z = wcdma_shape::shape_of(k as usize);
+    let z = wcdma_shape::sides_of(k as usize);
     let r = narrow(z.r);
     let c = narrow(z.c);
     let cells = r * c;

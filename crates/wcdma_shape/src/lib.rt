@@ -3,7 +3,7 @@
 mod tables;
 
 ghost use mathlib.Core.Path.{_≡_};
-ghost use Rattle.wcdma_shape.specs.Rectangle.{Size, within, rows, cols};
+ghost use Rattle.wcdma_shape.specs.Rectangle.{Size, within, rows, prime, cols};
 ghost use Rattle.wcdma_shape.specs.Orders.{whichOrder, orderOf, rowAt};
 ghost use Rattle.wcdma_shape.specs.Post.{ShapeOf, PlaceIn, PlaceOf, ColsIn, RowIn};
 
@@ -14,6 +14,12 @@ pub struct Shape {
     pub p: usize,
     pub c: usize,
     pub v: u32,
+}
+
+// R and C.
+pub struct Sides {
+    pub r: usize,
+    pub c: usize,
 }
 
 fn is_within(a: usize, b: usize, k: usize) -> bool
@@ -74,6 +80,39 @@ fn cols_of(k: usize, r: usize, p: usize) -> usize
         return p;
     }
     p + 1
+}
+
+// p itself, for whoever asks for no place of it. (Were `prime_place` asked by two, it would be a function by itself, and a walk some twenty
+// instructions dearer; were `shape_of`, as much.)
+fn prime_of(k: usize, r: usize, list: &[u16; 52]) -> usize
+    requires { ⌜ PlaceIn k r (now list) ⌝ }
+    ensures { λ p. ⌜ p ≡ prime k ⌝ }
+{
+    if is_within(481, 530, k) {
+        return 53;
+    }
+    let least = (k - 1) / r;
+    let mut n = 0;
+    while n < 51 {
+        let p = wide16(list[n]);
+        if least <= p {
+            return p;
+        }
+        n += 1;
+    }
+    257
+}
+
+// R and C alone, for whoever lays nothing out.
+pub fn sides_of(k: usize) -> Sides
+    requires { ⌜ Size k ⌝ }
+    ensures { λ s. ⌜ (s .r ≡ rows k) × (s .c ≡ cols k) ⌝ }
+{
+    let r = rows_of(k);
+    let list = tables::primes_table();
+    let p = prime_of(k, r, &list);
+    let c = cols_of(k, r, p);
+    Sides { r, c }
 }
 
 pub fn shape_of(k: usize) -> Shape

@@ -34,9 +34,8 @@ returns-4 c =
     let v = z .before .before in
     let n = v .before .before in
     let i = n .before .before in
-    c .settled-last .ensures
-    ∙ settled-in _ (i .before .line-end .ensures) (n .number-in .ensures) (i .if1 .left) (v .first .given .1)
-    (sym (z .is-size .ensures) ∙ not-false _ (t .if2 .left))
+    settled-in _ (i .before .line-end .ensures) (n .number-in .ensures) (i .if1 .left) (v .first .given .1)
+    (sym (z .is-size .ensures) ∙ not-false _ (t .if2 .left)) (c .can-begin2 .ensures)
 
 pub settled-spec : {M : Type 1} → statement M
 settled-spec =

@@ -1,5 +1,5 @@
 -- `figures_in` is a line of the report.
-use mathlib.Core.Path.{_≡_, ap, _∙_}
+use mathlib.Core.Path.{_≡_, _∙_}
 use native.Mathlib.Omega.{arith}
 use borrow.Author.Needs.{needs}
 use Rattle.wcdma_shape.specs.Rectangle.{rows, cols}
@@ -7,25 +7,18 @@ use Rattle.wcdma_report.specs.Figured.{rows-few, cols-few, cells-few, sy
 use Rattle.wcdma_report.proofs.figures_in.Statement.{statement}
 use Rattle.wcdma_report.proofs.figures_in.Tie as tie
 
--- R and C of the shape are those of K
-r-is : (c : tie.After-shape-of) → c .shape-of .result .r ≡ rows (c .before .args .k)
-r-is c = let e = c .shape-of .ensures in e .1 .rows-is ∙ ap rows (e .0)
-
-c-is : (c : tie.After-shape-of) → c .shape-of .result .c ≡ cols (c .before .args .k)
-c-is c = let e = c .shape-of .ensures in e .1 .cols-is ∙ ap cols (e .0)
-
 narrow-requires : tie.Need-narrow-requires
-narrow-requires c κs = omega (arith, rows-few (c .before .pre) (r-is c) (c-is c))
+narrow-requires c κs = let e = c .sides-of .ensures in omega (arith, rows-few (c .before .pre) (e .0) (e .1))
 
 narrow-requires-2 : tie.Need-narrow-requires-2
-narrow-requires-2 c κs = let s = c .before in omega (arith, cols-few (s .before .pre) (r-is s) (c-is s))
+narrow-requires-2 c κs = let e = c .before .sides-of .ensures in omega (arith, cols-few (c .before .before .pre) (e .0) (e .1))
 
--- the same once they are narrow
+-- R and C, once they are narrow
 r-narrow : (c : tie.After-narrow2) → c .before .narrow .result ≡ rows (c .before .before .before .args .k)
-r-narrow c = c .before .narrow .ensures ∙ r-is (c .before .before)
+r-narrow c = c .before .narrow .ensures ∙ c .before .before .sides-of .ensures .0
 
 c-narrow : (c : tie.After-narrow2) → c .narrow2 .result ≡ cols (c .before .before .before .args .k)
-c-narrow c = c .narrow2 .ensures ∙ c-is (c .before .before)
+c-narrow c = c .narrow2 .ensures ∙ c .before .before .sides-of .ensures .1
 
 mul-cells : tie.Need-mul-cells
 mul-cells c = let h = cells-few (c .before .before .before .pre) (r-narrow c) (c-narrow c) in search needs
