@@ -8,12 +8,12 @@ use lib.ListN.{length}
 use Rattle.laws.specs.declared.Way.{Way}
 use Rattle.laws.specs.Loop.{by}
 use Rattle.sets.specs.declared.Set.{Set}
-use Rattle.families.specs.Rules.{L}
+use Rattle.families.specs.Symbols.{symbolsOf, blockL}
 use Rattle.movers.specs.Moves.{Fitting, movedBy, moved-same}
 use Rattle.tables.specs.Passed.{Judged, Tabled, judged-output}
 use Rattle.blocks.specs.Answer.{moved}
 
-module _ {A : Type 0} {s : Set} {table : List ℕ} (src dst : List A) (e : Judged s (s .n) (length src) (length dst)) (t : Tabled s table) where
+module _ {A : Type 0} {s : Set} {table : List ℕ} (src dst : List A) (e : Judged s (symbolsOf s) (length src) (length dst)) (t : Tabled s table) where
   pub fitting : Fitting table src dst
   fitting = record {
     same = e .output ∙ sym (e .input);
@@ -27,5 +27,5 @@ module _ {A : Type 0} {s : Set} {table : List ℕ} (src dst : List A) (e : Judge
   output-is way asked z w q =
       q ∙ ap (λ (v : Way). movedBy v (by table) (length src) z src dst) (sym w)
       ∙ ap (λ (n : ℕ). movedBy way (by table) n z src dst) (e .input)
-      ∙ moved-same way (by table) (L s) (s .n) z src dst (t .holds)
-      ∙ sym (judged-output e (movedBy way (L s) (s .n) z src dst) dst)
+      ∙ moved-same way (by table) (blockL s) (symbolsOf s) z src dst (t .holds)
+      ∙ sym (judged-output e (movedBy way (blockL s) (symbolsOf s) z src dst) dst)

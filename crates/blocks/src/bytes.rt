@@ -9,13 +9,14 @@ ghost use mathlib.Core.Path.{_≡_};
 ghost use Prim.Native.Nat.{_≤_};
 ghost use lib.ListN.{length};
 ghost use Rattle.laws.specs.declared.Way.the-variants.{Interleaver, Deinterleaver};
+ghost use Rattle.families.specs.Symbols.{symbolsOf};
 ghost use Rattle.tables.specs.Answer.{movedOf, sayMoved};
 ghost use Rattle.tables.specs.Passed.{Judged};
 ghost use Rattle.blocks.specs.Answer.{moved};
 
 // Moves a judged block by a lent table.
 fn move_by(way: Way, set: Set, table: &mut [u16], src: &[u8], dst: &mut [u8])
-    requires { ⌜ Judged set (set .n) (length (now src)) (length (now dst)) × (set .n ≤ length (now table)) ⌝ }
+    requires { ⌜ Judged set (symbolsOf set) (length (now src)) (length (now dst)) × (symbolsOf set ≤ length (now table)) ⌝ }
     ensures { λ _. ⌜ now (dst .exit) ≡ moved way set 0 (now (src .entry)) (now (dst .entry)) ⌝ }
 {
     tables::fill(set, table);
@@ -25,9 +26,9 @@ fn move_by(way: Way, set: Set, table: &mut [u16], src: &[u8], dst: &mut [u8])
     }
 }
 
-// Moves a judged block by the smallest table that holds N.
+// Moves a judged block by the smallest table that holds its symbols.
 fn move_judged(way: Way, set: Set, src: &[u8], dst: &mut [u8])
-    requires { ⌜ Judged set (set .n) (length (now src)) (length (now dst)) ⌝ }
+    requires { ⌜ Judged set (symbolsOf set) (length (now src)) (length (now dst)) ⌝ }
     ensures { λ _. ⌜ now (dst .exit) ≡ moved way set 0 (now (src .entry)) (now (dst .entry)) ⌝ }
 {
     let n = tables::size_of(set);
@@ -43,12 +44,12 @@ fn move_judged(way: Way, set: Set, src: &[u8], dst: &mut [u8])
     move_by(way, set, &mut table, src, dst)
 }
 
-// Moves a block of N bytes, either way. Refusals 1, 2, 3, 16, 11, 10, 5, 6, before anything is walked.
+// Moves a block of bytes, either way: N of them, or of couples two for each. Refusals 1, 2, 3, 16, 11, 10, 5, 6, before anything is walked.
 pub fn move_block(way: Way, set: Set, src: &[u8], dst: &mut [u8]) -> Moved
-    ensures answer { λ r. ⌜ sayMoved r ≡ movedOf set (set .n) (length (now (src .entry))) (length (now (dst .entry))) ⌝ }
+    ensures answer { λ r. ⌜ sayMoved r ≡ movedOf set (symbolsOf set) (length (now (src .entry))) (length (now (dst .entry))) ⌝ }
     ensures output { λ r. ⌜ now (dst .exit) ≡ moved way set 0 (now (src .entry)) (now (dst .entry)) ⌝ }
 {
-    match tables::judge(set, set.n as usize, src.len(), dst.len()) {
+    match tables::judge(set, 1, src.len(), dst.len()) {
         Moved::Refused(x) => Moved::Refused(x),
         Moved::Done => {
             move_judged(way, set, src, dst);
@@ -57,17 +58,17 @@ pub fn move_block(way: Way, set: Set, src: &[u8], dst: &mut [u8]) -> Moved
     }
 }
 
-// Interleaves N bytes: dst[t] = src[L(t)].
+// Interleaves a block of bytes: dst[t] = src[L(t)], of couples by their symbols.
 pub fn interleave(set: Set, src: &[u8], dst: &mut [u8]) -> Moved
-    ensures answer { λ r. ⌜ sayMoved r ≡ movedOf set (set .n) (length (now (src .entry))) (length (now (dst .entry))) ⌝ }
+    ensures answer { λ r. ⌜ sayMoved r ≡ movedOf set (symbolsOf set) (length (now (src .entry))) (length (now (dst .entry))) ⌝ }
     ensures output { λ r. ⌜ now (dst .exit) ≡ moved Interleaver set 0 (now (src .entry)) (now (dst .entry)) ⌝ }
 {
     move_block(Way::Interleaver, set, src, dst)
 }
 
-// Deinterleaves N bytes: dst[L(t)] = src[t].
+// Deinterleaves a block of bytes: dst[L(t)] = src[t], of couples by their symbols.
 pub fn deinterleave(set: Set, src: &[u8], dst: &mut [u8]) -> Moved
-    ensures answer { λ r. ⌜ sayMoved r ≡ movedOf set (set .n) (length (now (src .entry))) (length (now (dst .entry))) ⌝ }
+    ensures answer { λ r. ⌜ sayMoved r ≡ movedOf set (symbolsOf set) (length (now (src .entry))) (length (now (dst .entry))) ⌝ }
     ensures output { λ r. ⌜ now (dst .exit) ≡ moved Deinterleaver set 0 (now (src .entry)) (now (dst .entry)) ⌝ }
 {
     move_block(Way::Deinterleaver, set, src, dst)

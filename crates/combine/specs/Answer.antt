@@ -1,5 +1,5 @@
--- Repeated receptions of a block, added up: the lines of the two calls in the order of change request 2, without 8, by request 7, what they have to
--- say, and what is stored after a call.
+-- Repeated receptions of a block, added up: the lines of the two calls in the order of change request 2, without 8, by request 7, and with 1 for profile 9, by
+-- request 12, what they have to say, and what is stored after a call.
 use Prim.Native.Nat.{ℕ}
 use mathlib.Core.Bool.{Bool, cond, not, _&&_}
 use mathlib.Core.List.{List, [], _∷_, _++_}
@@ -10,6 +10,7 @@ use lib.ListN.{length}
 use Rattle.laws.specs.Outcome.{Outcome, done, refused, apart, Line, line, judged, after}
 use Rattle.sets.specs.declared.Set.{Set}
 use Rattle.sets.specs.declared.Refusal.{Refusal}
+use Rattle.sets.specs.Set.{familyOf, isCoupled}
 use Rattle.sets.specs.Verdict.{setLines, refusal}
 use Rattle.families.specs.Rules.{L}
 use Rattle.positions.specs.declared.Running.{Running}
@@ -28,9 +29,13 @@ abbrev pub lentLines : Set → Reception → Kept → List Line
 lentLines s b h =
     line 5 (not (bothLong (s .n) (b .received) (b .present))) ∷ line 6 (not (bothLong (s .n) (h .sums) (h .counts))) ∷ valueLines (L s) (s .n) b h
 
+-- 1, also: the set is of couples, whose receptions are not added up
+abbrev pub coupledLine : Set → Line
+coupledLine s = line 1 (isCoupled (familyOf s))
+
 -- adding a block: 1, 2, 3, 16, 11, 10, and these
 unfoldable pub addLines : Set → Reception → Kept → List Line
-addLines s b h = setLines s ++ lentLines s b h
+addLines s b h = coupledLine s ∷ (setLines s ++ lentLines s b h)
 
 -- what adding a block has to say
 unfoldable pub addedOf : Set → Reception → Kept → Outcome Refusal (Unit {0})
@@ -55,7 +60,7 @@ toldOf r = cond (eqb (r .count) 0) blank (soft r)
 
 -- reading position k: 1, 2, 3, 16, 11, 10, 4 a position that is N or more, 6 the sums or the counts aren't N
 unfoldable pub readLines : Set → Kept → ℕ → List Line
-readLines s h k = setLines s ++ (line 4 (leb (s .n) k) ∷ line 6 (not (bothLong (s .n) (h .sums) (h .counts))) ∷ [])
+readLines s h k = coupledLine s ∷ (setLines s ++ (line 4 (leb (s .n) k) ∷ line 6 (not (bothLong (s .n) (h .sums) (h .counts))) ∷ []))
 
 unfoldable pub readOf : Set → Kept → ℕ → Outcome Refusal Standing
 readOf s h k = judged (refusal s) (readLines s h k) (toldOf (held h k))

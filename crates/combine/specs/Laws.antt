@@ -1,18 +1,21 @@
 -- What adding a block does, over the definitions that its contract cites: a refused block leaves all as it was; of an accepted one each value goes to
 -- its input index, and each position hears one value.
 use Prim.Native.Nat.{ℕ, _<_}
+use mathlib.Core.Bool.{false, true≢false}
 use mathlib.Core.List.{List}
 use mathlib.Core.Path.{_≡_, sym, ap, ap₂, _∙_}
 use native.Mathlib.Nat.{zero-add}
 use lib.Ieee.{Float, nan}
 use lib.ListN.{length, getD}
-use Rattle.laws.specs.Outcome.{done, refused, clear, first, clear-front, answer-clear, answer-keeps}
+use Rattle.laws.specs.Outcome.{done, refused, clear, first, first-clear, clear-front, answer-clear, answer-keeps}
 use Rattle.laws.specs.Run.{run, length-run, getD-run}
 use Rattle.laws.specs.Perm.{Perm}
 use Rattle.sets.specs.declared.Set.{Set}
 use Rattle.sets.specs.declared.Refusal.{Refusal}
+use Rattle.sets.specs.Set.{familyOf, isCoupled}
+use Rattle.sets.specs.Numbered.{nine-coupled}
 use Rattle.sets.specs.Verdict.{refusal}
-use Rattle.families.specs.Rules.{L, M}
+use Rattle.families.specs.Rules.{L, M, lawful}
 use Rattle.positions.specs.Heard.{running, Reception, Kept, kept, held, heard}
 use Rattle.tables.specs.Answer.{blockLines, movedOf}
 use Rattle.tables.specs.Passed as tabled
@@ -40,16 +43,23 @@ module _ (s : Set) (b : Reception) (h : Kept) (e : addedOf s b h ≡ done tt) wh
   unfolding addedOf
   no-line = answer-clear (refusal s) tt (addLines s b h) e
 
+  pub plain : isCoupled (familyOf s) ≡ false
+  unfolding addLines
+  plain = first-clear (addLines s b h) no-line .0
+
+  pub not-nine : s .profile ≡ 9 → ⊥
+  not-nine p = true≢false (sym (ap isCoupled (nine-coupled s p)) ∙ plain)
+
   -- as `tables` says of its lengths
   its-block : movedOf s (s .n) (inputOf s b h) (outputOf s b h) ≡ done tt
   its-block =
-      rw (clear-front (blockLines s (s .n) (inputOf s b h) (outputOf s b h)) (valueLines (L s) (s .n) b h) (ap first (sym (lines-are s b h)) ∙ no-line))
+      rw (clear-front (blockLines s (s .n) (inputOf s b h) (outputOf s b h)) (valueLines (L s) (s .n) b h) (sym (lines-are s b h plain) ∙ no-line))
 
   pub its-perm : Perm (s .n) (L s) (M s)
-  its-perm = tabled.its-perm s (s .n) (inputOf s b h) (outputOf s b h) its-block
+  its-perm = lawful s (tabled.judged-so s (s .n) (inputOf s b h) (outputOf s b h) its-block .accepted) .perm
 
   pub its-lengths : Long (s .n) b h
-  its-lengths = all-long s b h (tabled.judged-so s (s .n) (inputOf s b h) (outputOf s b h) its-block)
+  its-lengths = all-long s b h (record { plain = plain; judged-so = tabled.judged-so s (s .n) (inputOf s b h) (outputOf s b h) its-block })
 
   -- by input index, what each position becomes
   pub sums-are : sumsOf s b h ≡ run (λ k. heardIn s b h k .sum) 0 (s .n)

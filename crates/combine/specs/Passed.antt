@@ -1,22 +1,26 @@
 -- What stands behind each return of adding a block: its judgement, the table, the values, the loop that adds.
-use Prim.Native.Nat.{ℕ, _<_}
-use mathlib.Core.Bool.{Bool, not}
+use Prim.Native.Nat.{ℕ, _*_, _<_}
+use mathlib.Core.Bool.{Bool, true, false, not}
 use mathlib.Core.List.{List, _∷_, _++_, append-assoc}
 use mathlib.Core.Logic.{_≢_}
 use mathlib.Core.Path.{_≡_, sym, ap, ap₂, _∙_}
+use native.Mathlib.Nat.{mul-one}
 use native.Mathlib.Omega.{arith}
 use lib.Ieee.{Float, nan}
 use lib.ListN.{length, getD}
 use borrow.Author.Tests.{ltb-false}
-use Rattle.laws.specs.Outcome.{Outcome, refused, Line, line, clear, stopped, first, judged, after, first-clear, refused-front, kept-front, done-front}
+use Rattle.laws.specs.Outcome.{Outcome, done, refused, line, Ruling, clear, stopped, settle, first, after, first-clear, refused-front, kept-front, done-front}
 use Rattle.laws.specs.Run.{run, run-same}
 use Rattle.laws.specs.Move.{scatter, scatter-same}
 use Rattle.laws.specs.Loop.{by}
 use Rattle.laws.specs.Perm.{Perm, once}
+use Rattle.laws.specs.Walk.{Rule}
 use Rattle.sets.specs.declared.Set.{Set}
 use Rattle.sets.specs.declared.Refusal.{Refusal}
+use Rattle.sets.specs.Set.{familyOf, isCoupled}
 use Rattle.sets.specs.Verdict.{setLines, refusal}
 use Rattle.families.specs.Rules.{L, M, lawful}
+use Rattle.families.specs.Symbols.{symbolsOf, symbols-plain, block-plain}
 use Rattle.tables.specs.declared.Moved.{Moved}
 use Rattle.tables.specs.declared.Moved.the-variants.{Done, Refused}
 use Rattle.tables.specs.Answer.{lengthLines, blockLines, movedOf, sayMoved}
@@ -50,48 +54,63 @@ module _ (s : Set) (b : Reception) (h : Kept) where
   abbrev pub outputOf : ℕ
   outputOf = oneOff (s .n) (length (h .sums)) (length (h .counts))
 
-  -- the lines of a block of these lengths, and those of its values behind them
-  pub lines-are : addLines s b h ≡ blockLines s (s .n) inputOf outputOf ++ valueLines (L s) (s .n) b h
+  -- of a set of couples: 1, and all is as it was
+  pub couples-refused : {x : Refusal} → isCoupled (familyOf s) ≡ true → x ≡ refusal s 1 → Added s b h (Refused x) (h .sums) (h .counts)
+  unfolding addedOf sumsOf countsOf addLines
+  couples-refused c q = record { answer = rw c (ap refused q); sums = rw c; counts = rw c }
+
+  -- of any other: the lines of a block of these lengths, and those of its values behind them
+  pub lines-are : isCoupled (familyOf s) ≡ false → first (addLines s b h) ≡ first (blockLines s (s .n) inputOf outputOf ++ valueLines (L s) (s .n) b h)
   unfolding addLines blockLines
-  lines-are =
-      ap₂ (λ (x y : Bool). setLines s ++ (line 5 (not x) ∷ line 6 (not y) ∷ valueLines (L s) (s .n) b h))
+  lines-are c =
+      rw c
+      (ap first (ap₂ (λ (x y : Bool). setLines s ++ (line 5 (not x) ∷ line 6 (not y) ∷ valueLines (L s) (s .n) b h))
       (sym (off-both (s .n) (length (b .received)) (length (b .present)))) (sym (off-both (s .n) (length (h .sums)) (length (h .counts))))
-      ∙ sym (append-assoc (setLines s) (lengthLines (s .n) inputOf outputOf) (valueLines (L s) (s .n) b h))
+      ∙ sym (append-assoc (setLines s) (lengthLines (s .n) inputOf outputOf) (valueLines (L s) (s .n) b h))))
 
   -- judged by these, and nothing is in the way
-  abbrev pub Lent : Type 0
-  Lent = Judged s (s .n) inputOf outputOf
+  pub record Lent : Type 0 where
+    pub plain : isCoupled (familyOf s) ≡ false
+    pub judged-so : Judged s (s .n) inputOf outputOf
 
   -- then every length is N
   pub all-long : Lent → Long (s .n) b h
   all-long e =
-      let i = both-on (s .n) (length (b .received)) (length (b .present)) (e .input) in
-      let o = both-on (s .n) (length (h .sums)) (length (h .counts)) (e .output) in
+      let i = both-on (s .n) (length (b .received)) (length (b .present)) (e .judged-so .input) in
+      let o = both-on (s .n) (length (h .sums)) (length (h .counts)) (e .judged-so .output) in
       record { received = i .0; present = i .1; sums = o .0; counts = o .1 }
 
   -- what judging says is of these lengths
-  pub said-so : {i o : ℕ} {x : Outcome Refusal (Unit {0})} → i ≡ inputOf → o ≡ outputOf → x ≡ movedOf s (s .n) i o → x ≡ movedOf s (s .n) inputOf outputOf
-  said-so p q e = e ∙ ap₂ (movedOf s (s .n)) p q
+  module _ (c : isCoupled (familyOf s) ≡ false) where
+    pub said-so : {i o : ℕ} {x : Outcome Refusal (Unit {0})} → i ≡ inputOf → o ≡ outputOf → x ≡ movedOf s (symbolsOf s * 1) i o
+        → x ≡ movedOf s (s .n) inputOf outputOf
+    said-so {i} {o} p q e = e ∙ ap (λ (n : ℕ). movedOf s n i o) (mul-one (symbolsOf s) ∙ symbols-plain s c) ∙ ap₂ (movedOf s (s .n)) p q
 
-  -- the block is not taken: so is the call refused, and all is as it was
-  module _ {x : Refusal} (e : refused x ≡ movedOf s (s .n) inputOf outputOf) where
-    says-so : refused x ≡ addedOf s b h
-    unfolding addedOf
-    says-so =
-        sym (ap (λ (ls : List Line). judged (refusal s) ls tt) lines-are ∙ refused-front (refusal s) tt (blockLines s (s .n) inputOf outputOf) (valueLines (L s) (s .n) b h) (sym e) tt)
+    -- the block is not taken: so is the call refused, and all is as it was
+    module _ {x : Refusal} (e : refused x ≡ movedOf s (s .n) inputOf outputOf) where
+      says-so : refused x ≡ addedOf s b h
+      unfolding addedOf
+      says-so =
+          sym (ap (λ (r : Ruling). settle r (λ k. refused (refusal s k)) (done tt)) (lines-are c)
+          ∙ refused-front (refusal s) tt (blockLines s (s .n) inputOf outputOf) (valueLines (L s) (s .n) b h) (sym e) tt)
 
-    kept-then : {B : Type 0} (new old : B) → old ≡ after (addLines s b h) new old
-    kept-then new old =
-        sym (ap (λ (ls : List Line). after ls new old) lines-are ∙ kept-front (refusal s) tt (blockLines s (s .n) inputOf outputOf) (valueLines (L s) (s .n) b h) (sym e) new old)
+      kept-then : {B : Type 0} (new old : B) → old ≡ after (addLines s b h) new old
+      kept-then {B} new old =
+          sym (ap (λ (r : Ruling). settle r (λ k. old) new) (lines-are c)
+          ∙ kept-front (refusal s) tt (blockLines s (s .n) inputOf outputOf) (valueLines (L s) (s .n) b h) (sym e) new old)
 
-    pub block-refused : Added s b h (Refused x) (h .sums) (h .counts)
-    unfolding sumsOf countsOf
-    block-refused = record { answer = says-so; sums = kept-then _ (h .sums); counts = kept-then _ (h .counts) }
+      pub block-refused : Added s b h (Refused x) (h .sums) (h .counts)
+      unfolding sumsOf countsOf
+      block-refused = record { answer = says-so; sums = kept-then _ (h .sums); counts = kept-then _ (h .counts) }
 
   -- it is, and the table holds L: all is as long as it must be, and the values decide
   module _ {table : List ℕ} (e : Lent) (t : Tabled s table) where
     perm : Perm (s .n) (L s) (M s)
-    perm = lawful s (e .accepted) .perm
+    perm = lawful s (e .judged-so .accepted) .perm
+
+    -- of such a set the symbols of a block are its positions
+    holds : (k : ℕ) → k < s .n → by table k ≡ L s k
+    holds k l = t .holds k (omega (arith, symbols-plain s (e .plain))) ∙ ap (λ (r : Rule). r .l k) (block-plain s (e .plain))
 
     long : Long (s .n) b h
     long = all-long e
@@ -101,16 +120,17 @@ module _ (s : Set) (b : Reception) (h : Kept) where
       presences = long .present ∙ sym (long .received);
       sums = long .sums ∙ sym (long .received);
       counts = long .counts ∙ sym (long .received);
-      room = omega (arith, t .room, long .received);
-      within = λ k l. omega (arith, long .received, t .within k (omega (arith, long .received)));
+      room = omega (arith, t .room, symbols-plain s (e .plain), long .received);
+      within = λ k l. let z = symbols-plain s (e .plain) in omega (arith, long .received, t .within k (omega (arith, long .received)));
     }
 
     -- the lines by the table are the lines by L
     by-values : first (addLines s b h) ≡ first (valueLines (by table) (length (b .received)) b h)
     by-values =
-        ap first lines-are
-        ∙ done-front (refusal s) tt tt (blockLines s (s .n) inputOf outputOf) (valueLines (L s) (s .n) b h) (block-served s (s .n) (e .accepted) (e .input) (e .output))
-        ∙ ap first (sym (lines-same (by table) (L s) (s .n) b h (t .holds)) ∙ ap (λ (n : ℕ). valueLines (by table) n b h) (sym (long .received)))
+        lines-are (e .plain)
+        ∙ done-front (refusal s) tt tt (blockLines s (s .n) inputOf outputOf) (valueLines (L s) (s .n) b h)
+        (block-served s (s .n) (e .judged-so .accepted) (e .judged-so .input) (e .judged-so .output))
+        ∙ ap first (sym (lines-same (by table) (L s) (s .n) b h holds) ∙ ap (λ (n : ℕ). valueLines (by table) n b h) (sym (long .received)))
 
     module _ {number : ℕ} (j : number ≡ ruled (first (valueLines (by table) (length (b .received)) b h))) where
       -- a line of the values applies
@@ -135,7 +155,7 @@ module _ (s : Set) (b : Reception) (h : Kept) where
           once = λ i k hi hk q.
               let a : i < s .n = omega (arith, long .received) in
               let c : k < s .n = omega (arith, long .received) in
-              once perm i k a c (sym (t .holds i a) ∙ q ∙ t .holds k c);
+              once perm i k a c (sym (holds i a) ∙ q ∙ holds k c);
           spare = λ k l.
               ltb-false 65535 (heardAt (by table) b h k .count)
               (any-none (isFull (by table) b h) (length (b .received)) (first-clear (valueLines (by table) (length (b .received)) b h) goes .1 .1 .0) k l);
@@ -149,8 +169,8 @@ module _ (s : Set) (b : Reception) (h : Kept) where
             ap (λ (n : ℕ). scatter (by table) n z (run (λ t. part (heardAt (by table) b h t)) 0 n) old) (long .received)
             ∙ ap (λ (xs : List _). scatter (by table) (s .n) z xs old)
             (run-same (λ t. part (heardAt (by table) b h t)) (λ t. part (heardAt (L s) b h t)) 0 (s .n)
-            (λ i g. ap (λ (k : ℕ). part (heard (getD (b .present) i 0) (getD (b .received) i nan) (held h k))) (t .holds i (omega arith))))
-            ∙ scatter-same (by table) (L s) (s .n) z (run (λ t. part (heardAt (L s) b h t)) 0 (s .n)) old (t .holds)
+            (λ i g. ap (λ (k : ℕ). part (heard (getD (b .present) i 0) (getD (b .received) i nan) (held h k))) (holds i (omega arith))))
+            ∙ scatter-same (by table) (L s) (s .n) z (run (λ t. part (heardAt (L s) b h t)) 0 (s .n)) old holds
 
         pub values-done : {gotSums : List Float} {gotCounts : List ℕ} → gotSums ≡ sumsBy (by table) (length (b .received)) b h
             → gotCounts ≡ countsBy (by table) (length (b .received)) b h → Added s b h Done gotSums gotCounts

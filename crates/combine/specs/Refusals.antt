@@ -1,11 +1,11 @@
--- The refusals of the two calls in the sentences of change request 2 and in its order, with 16 of request 4 and 11 and 10 of request 6 after 3, and without
--- 8, by request 7: 1, 2, 3, 16, 11, 10, 5, 6, 14, 13, 15 for a block that is added, 1, 2, 3, 16, 11, 10, 4, 6 for a position that is read. A number is said
+-- The refusals of the two calls in the sentences of change request 2 and in its order, with 1 also for profile 9, by request 12, 16 of request 4 and 11 and 10 of requests 6
+-- and 12 after 3, and without 8, by request 7: 1, 2, 3, 16, 11, 10, 5, 6, 14, 13, 15 for a block that is added, 1, 2, 3, 16, 11, 10, 4, 6 for a position that is read. A number is said
 -- exactly when its sentence is the first that holds, and then all that is stored is what it was.
 use Prim.Native.Nat.{ℕ, _+_, _≤_, _<_}
-use mathlib.Core.Bool.{Bool, true, false, not, _&&_}
+use mathlib.Core.Bool.{Bool, true, false, not, _&&_, true≢false}
 use mathlib.Core.List.{List, [], _∷_, _++_}
 use mathlib.Core.Logic.{_↔_, _≢_, _⊎_, inl, inr}
-use mathlib.Core.Path.{_≡_, refl, ap₂, _∙_}
+use mathlib.Core.Path.{_≡_, refl, sym, ap, ap₂, _∙_}
 use native.Mathlib.Nat.{not-le-of-lt}
 use native.Mathlib.Omega.{arith}
 use lib.Dec.{eqb}
@@ -17,6 +17,9 @@ use Rattle.laws.specs.Members.{both}
 use Rattle.laws.specs.Sentences.{Sentence, sentence, FirstTrue, Told, none, more, told-reach, said-exactly, kept-alone}
 use Rattle.laws.specs.Told.{NoneTrue, told-clear, told-join}
 use Rattle.sets.specs.declared.Set.{Set}
+use Rattle.sets.specs.Set.{familyOf, isCoupled}
+use Rattle.sets.specs.Numbered.{nine-coupled, coupled-nine}
+use Rattle.sets.specs.Beside.{the-coupled, plain-other}
 use Rattle.sets.specs.Admits.{Accepted, accepted-front}
 use Rattle.sets.specs.Verdict.{refusal}
 use Rattle.sets.specs.Refusals.{setSentences, set-told, refusals-apart}
@@ -25,7 +28,7 @@ use Rattle.positions.specs.Heard.{Reception, Kept, kept, held, one, count-rise}
 use Rattle.adders.specs.Any.{any, Somewhere, any-some, any-none}
 use Rattle.adders.specs.Adding.{sumsBy, countsBy}
 use Rattle.adders.specs.Lines.{heardAt, isHigh, isSpoiled, isFull}
-use Rattle.combine.specs.Answer.{lentLines, addLines, addedOf, sumsOf, countsOf, toldOf, readLines, readOf}
+use Rattle.combine.specs.Answer.{lentLines, coupledLine, addLines, addedOf, sumsOf, countsOf, toldOf, readLines, readOf}
 use Rattle.combine.specs.Laws.{keptAfter}
 use Rattle.combine.specs.Spoils.{Spoils, spoils-so, spoils-not}
 
@@ -40,13 +43,15 @@ lentSentences s b h =
     ∷ sentence 15 (Somewhere (λ t. 65535 < held h (L s t) .count + one (getD (b .present) t 0)) (s .n))
     ∷ []
 
--- adding a block: 1, 2, 3, 16, 11, 10, and these
+-- adding a block: 1, also: the profile is 9; 1, 2, 3, 16, 11, 10, and these
 abbrev pub addSentences : Set → Reception → Kept → List Sentence
-addSentences s b h = setSentences s ++ lentSentences s b h
+addSentences s b h = sentence 1 (s .profile ≡ 9) ∷ (setSentences s ++ lentSentences s b h)
 
--- reading a position. 4: it is N or more; 6: the sums or the counts aren't N long
+-- reading a position. 1, also: the profile is 9; 4: it is N or more; 6: the sums or the counts aren't N long
 abbrev pub readSentences : Set → Kept → ℕ → List Sentence
-readSentences s h k = setSentences s ++ (sentence 4 (s .n ≤ k) ∷ sentence 6 ((length (h .sums) ≢ s .n) ⊎ (length (h .counts) ≢ s .n)) ∷ [])
+readSentences s h k =
+    sentence 1 (s .profile ≡ 9)
+    ∷ (setSentences s ++ (sentence 4 (s .n ≤ k) ∷ sentence 6 ((length (h .sums) ≢ s .n) ⊎ (length (h .counts) ≢ s .n)) ∷ []))
 
 -- a line that asks whether two lengths are n
 told-long : {C : Type 0} {ls : List Line} {ps : List Sentence} (k n x y : ℕ)
@@ -84,13 +89,19 @@ lent-told s b h =
     (λ t e. omega (arith, ltb-true 65535 (heardAt (L s) b h t .count) e, count-rise (getD (b .present) t 0) (held h (L s t) .count)))
     (λ t e q. not-le-of-lt q (omega (arith, ltb-false 65535 (heardAt (L s) b h t .count) e, count-rise (getD (b .present) t 0) (held h (L s t) .count)))) none))))
 
+-- the line of couples is that of profile 9
+told-coupled : {C : Type 0} {ls : List Line} {ps : List Sentence} (s : Set) → Told (C × (isCoupled (familyOf s) ≡ false)) ls ps
+    → Told C (coupledLine s ∷ ls) (sentence 1 (s .profile ≡ 9) ∷ ps)
+told-coupled s t =
+    more (λ c e. coupled-nine s (the-coupled (familyOf s) e)) (λ c e h. true≢false (sym (ap isCoupled (nine-coupled s h)) ∙ e)) t
+
 add-told : (s : Set) (b : Reception) (h : Kept) → Told (Unit {0}) (addLines s b h) (addSentences s b h)
 unfolding addLines
-add-told s b h = told-join (set-told s) (lent-told s b h)
+add-told s b h = told-coupled s (told-join (set-told s) (lent-told s b h))
 
 read-told : (s : Set) (h : Kept) (k : ℕ) → Told (Unit {0}) (readLines s h k) (readSentences s h k)
 unfolding readLines
-read-told s h k = told-join (set-told s) (told-reach 4 (s .n) k (told-long 6 (s .n) (length (h .sums)) (length (h .counts)) none))
+read-told s h k = told-coupled s (told-join (set-told s) (told-reach 4 (s .n) k (told-long 6 (s .n) (length (h .sums)) (length (h .counts)) none)))
 
 -- a number is said exactly when its sentence holds and none before it does
 pub refusal-order-add : (s : Set) (b : Reception) (h : Kept) (k : ℕ) → (addedOf s b h ≡ refused (refusal s k)) ↔ FirstTrue (addSentences s b h) k
@@ -109,13 +120,13 @@ stored-kept s b h k f =
     (kept-alone (add-told s b h) tt (sumsBy (L s) (s .n) b h) (h .sums) k f)
     (kept-alone (add-told s b h) tt (countsBy (L s) (s .n) b h) (h .counts) k f)
 
--- an accepted set of which no such sentence holds is served
-pub add-served : (s : Set) (b : Reception) (h : Kept) → Accepted s → NoneTrue (lentSentences s b h) → addedOf s b h ≡ done tt
+-- an accepted set, but of profile 9, of which no such sentence holds is served
+pub add-served : (s : Set) (b : Reception) (h : Kept) → Accepted s → (s .profile ≡ 9 → ⊥) → NoneTrue (lentSentences s b h) → addedOf s b h ≡ done tt
 unfolding addedOf addLines
-add-served s b h a n =
-    rw (accepted-front s (lentLines s b h) a ∙ clear-first (lentLines s b h) (told-clear (lent-told {C = Unit {0}} s b h) tt .1 n))
+add-served s b h a p n =
+    rw (plain-other s p, accepted-front s (lentLines s b h) a ∙ clear-first (lentLines s b h) (told-clear (lent-told {C = Unit {0}} s b h) tt .1 n))
 
-pub read-served : (s : Set) (h : Kept) (k : ℕ) → Accepted s → length (h .sums) ≡ s .n → length (h .counts) ≡ s .n → k < s .n → readOf s h k ≡ done (toldOf (held h k))
+pub read-served : (s : Set) (h : Kept) (k : ℕ) → Accepted s → (s .profile ≡ 9 → ⊥) → length (h .sums) ≡ s .n → length (h .counts) ≡ s .n → k < s .n → readOf s h k ≡ done (toldOf (held h k))
 unfolding readOf readLines
-read-served s h k a i o l =
-    rw (accepted-front s _ a, lt-leb (s .n) k l, eq-eqb (length (h .sums)) (s .n) i, eq-eqb (length (h .counts)) (s .n) o)
+read-served s h k a p i o l =
+    rw (plain-other s p, accepted-front s _ a, lt-leb (s .n) k l, eq-eqb (length (h .sums)) (s .n) i, eq-eqb (length (h .counts)) (s .n) o)

@@ -14,6 +14,7 @@ ghost use Prim.Native.Nat.{_≤_};
 ghost use lib.ListN.{length};
 ghost use Rattle.positions.specs.Heard.{reception, kept};
 ghost use Rattle.laws.specs.Outcome.{done};
+ghost use Rattle.families.specs.Symbols.{symbolsOf};
 ghost use Rattle.tables.specs.Answer.{sayMoved};
 ghost use Rattle.combine.specs.Answer.{addedOf, sumsOf, countsOf, readOf, sayReading, toldOf};
 ghost use Rattle.combine.specs.Passed.{Lent, Added};
@@ -34,7 +35,7 @@ fn add_by(
     sums: &mut [f32],
     counts: &mut [u16],
 ) -> Moved
-    requires { ⌜ Lent set (reception (now received) (now present)) (kept (now sums) (now counts)) × (set .n ≤ length (now table)) ⌝ }
+    requires { ⌜ Lent set (reception (now received) (now present)) (kept (now sums) (now counts)) × (symbolsOf set ≤ length (now table)) ⌝ }
     ensures { λ r. ⌜ Added set
         (reception (now (received .entry)) (now (present .entry))) (kept (now (sums .entry)) (now (counts .entry)))
         r (now (sums .exit)) (now (counts .exit)) ⌝ }
@@ -48,7 +49,7 @@ fn add_by(
     Moved::Done
 }
 
-// Adds a judged block by the smallest table that holds N.
+// Adds a judged block by the smallest table that holds its symbols.
 fn add_judged(
     set: Set,
     received: &[f32],
@@ -75,8 +76,8 @@ fn add_judged(
 }
 
 // Adds a received block to what is stored: value t at input index L(t). A blank changes nothing; the first present value is stored as it is, count 1;
-// later ones are added with one rounding each, and the count rises by one. Refusals 1, 2, 3, 16, 11, 10, 5, 6, 14, 13, 15; up to 6 before anything
-// is walked.
+// later ones are added with one rounding each, and the count rises by one. Refusals 1, also of profile 9, 2, 3, 16, 11, 10, 5, 6, 14, 13, 15; up to 6
+// before anything is walked.
 pub fn add(
     set: Set,
     received: &[f32],
@@ -91,10 +92,13 @@ pub fn add(
     ensures counts { λ r. ⌜ now (counts .exit) ≡ countsOf set
         (reception (now (received .entry)) (now (present .entry))) (kept (now (sums .entry)) (now (counts .entry))) ⌝ }
 {
+    if sets::is_coupled(set) {
+        return Moved::Refused(sets::refusal_of(set, 1));
+    }
     let n = set.n as usize;
     let input = adders::off(n, received.len(), present.len());
     let output = adders::off(n, sums.len(), counts.len());
-    match tables::judge(set, n, input, output) {
+    match tables::judge(set, 1, input, output) {
         Moved::Refused(x) => Moved::Refused(x),
         Moved::Done => add_judged(set, received, present, sums, counts),
     }
@@ -110,10 +114,13 @@ fn reading_at(held: Running) -> Reading
     Reading::Soft(held)
 }
 
-// Reads a position, by input index. Refusals 1, 2, 3, 16, 11, 10, 4, 6.
+// Reads a position, by input index. Refusals 1, also of profile 9, 2, 3, 16, 11, 10, 4, 6.
 pub fn read(set: Set, sums: &[f32], counts: &[u16], position: u32) -> Reading
     ensures { λ r. ⌜ sayReading r ≡ readOf set (kept (now (sums .entry)) (now (counts .entry))) position ⌝ }
 {
+    if sets::is_coupled(set) {
+        return Reading::Refused(sets::refusal_of(set, 1));
+    }
     match sets::ruling_of(set) {
         Ruled::Stopped(k) => Reading::Refused(sets::refusal_of(set, k)),
         Ruled::Clear => {

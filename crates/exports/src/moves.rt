@@ -8,7 +8,7 @@ ghost use Rattle.blocks.specs.Answer.{moved};
 ghost use Rattle.symbols.specs.Answer.{movedSymbols};
 ghost use Rattle.flat.specs.Flat.{setOf, lentBlock, lentSymbols, numberOf};
 
-// Interleaves N bytes.
+// Interleaves a block of bytes.
 #[no_mangle]
 pub extern "C" fn interleaver_interleave_bytes(set: &[u32; SET], src: &[u8], dst: &mut [u8]) -> u32
     ensures number { λ r. ⌜ r ≡ numberOf (lentBlock (now (set .entry)) (now (src .entry)) (now (dst .entry))) ⌝ }
@@ -18,7 +18,7 @@ pub extern "C" fn interleaver_interleave_bytes(set: &[u32; SET], src: &[u8], dst
     lent::moves::move_bytes(Way::Interleaver, set, src, dst)
 }
 
-// Deinterleaves N bytes.
+// Deinterleaves a block of bytes.
 #[no_mangle]
 pub extern "C" fn interleaver_deinterleave_bytes(
     set: &[u32; SET],
@@ -32,7 +32,7 @@ pub extern "C" fn interleaver_deinterleave_bytes(
     lent::moves::move_bytes(Way::Deinterleaver, set, src, dst)
 }
 
-// Interleaves N soft values.
+// Interleaves a block of soft values.
 #[no_mangle]
 pub extern "C" fn interleaver_interleave_soft(set: &[u32; SET], src: &[f32], dst: &mut [f32]) -> u32
     ensures number { λ r. ⌜ r ≡ numberOf (lentBlock (now (set .entry)) (now (src .entry)) (now (dst .entry))) ⌝ }
@@ -42,7 +42,7 @@ pub extern "C" fn interleaver_interleave_soft(set: &[u32; SET], src: &[f32], dst
     lent::moves::move_soft(Way::Interleaver, set, src, dst)
 }
 
-// Deinterleaves N soft values.
+// Deinterleaves a block of soft values.
 #[no_mangle]
 pub extern "C" fn interleaver_deinterleave_soft(
     set: &[u32; SET],
@@ -56,7 +56,7 @@ pub extern "C" fn interleaver_deinterleave_soft(
     lent::moves::move_soft(Way::Deinterleaver, set, src, dst)
 }
 
-// Interleaves N symbols of `width` bytes.
+// Interleaves a block of symbols of `width` bytes.
 #[no_mangle]
 pub extern "C" fn interleaver_interleave_symbols(
     set: &[u32; SET],
@@ -71,7 +71,7 @@ pub extern "C" fn interleaver_interleave_symbols(
     lent::moves::move_symbols(Way::Interleaver, set, width, src, dst)
 }
 
-// Deinterleaves N symbols of `width` bytes.
+// Deinterleaves a block of symbols of `width` bytes.
 #[no_mangle]
 pub extern "C" fn interleaver_deinterleave_symbols(
     set: &[u32; SET],

@@ -1,5 +1,5 @@
 -- What each family's leaf requires of an accepted set, and that the rule it serves is the set's.
-use Prim.Native.Nat.{ℕ}
+use Prim.Native.Nat.{ℕ, _<_}
 use mathlib.Core.List.{List}
 use mathlib.Core.Path.{_≡_, sym, ap, ap₂, _∙_, subst}
 use native.Mathlib.Omega.{arith}
@@ -8,10 +8,10 @@ use Rattle.laws.specs.declared.Leaf.{Leaf}
 use Rattle.laws.specs.Walk.{Rule, inWay, LeafOf}
 use Rattle.sets.specs.declared.Set.{Set}
 use Rattle.profiles.specs.declared.Family.{Family}
-use Rattle.profiles.specs.declared.Family.the-variants.{Carrier, Spatial, Turbo, Quadratic}
-use Rattle.sets.specs.Set.{rowsOf, rotationOf, groupOf, f1, f2}
+use Rattle.profiles.specs.declared.Family.the-variants.{Carrier, Spatial, Turbo, Quadratic, Coupled}
+use Rattle.sets.specs.Set.{rowsOf, rotationOf, groupOf, f1, f2, couplesOf}
 use Rattle.sets.specs.Fit.{Carried}
-use Rattle.sets.specs.Carried.{carrier-size, spatial-size, stream-in, turbo-size, quadratic-size}
+use Rattle.sets.specs.Carried.{carrier-size, spatial-size, stream-in, turbo-size, quadratic-size, coupled-size}
 use Rattle.carrier.specs.Formula.{carrierRule}
 use Rattle.carrier.specs.Block.{Whole}
 use Rattle.carrier_turned.specs.declared.Stream.{Stream}
@@ -21,6 +21,9 @@ use Rattle.wcdma_shape.specs.Rectangle.{Size}
 use Rattle.wcdma.specs.Turbo.{turboRule}
 use Rattle.quadratic.specs.Formula.{quadraticRule}
 use Rattle.quadratic_walk.specs.Spot as squares
+use Rattle.couples.specs.declared.Couples.{Couples}
+use Rattle.couples.specs.Formula.{coupledRule}
+use Rattle.couples.specs.Test.{Numbered}
 use Rattle.families.specs.Rules.{familyRule, ruleOf, ruleIn, barred, rule-is}
 use Rattle.families.specs.Taken.{Taken}
 
@@ -70,6 +73,25 @@ module _ {s : Set} (t : Taken s Quadratic) where
 
   pub quadratic-rule : quadraticRule (s .n) (f1 s) (f2 s) ≡ ruleOf s
   quadratic-rule = sym (rule-is s (t .which))
+
+module _ {s : Set} (t : Taken s Coupled) where
+  pub coupled-rule : coupledRule (couplesOf s) ≡ ruleOf s
+  coupled-rule = sym (rule-is s (t .which))
+
+  module _ {c : Couples} (e : c ≡ couplesOf s) where
+    pub couples-numbered : Numbered c
+    couples-numbered = subst Numbered (sym e) (coupled-size s (t .accepted) (t .which) .numbered)
+
+    pub below-couples : {x : ℕ} → x < s .n → x < c .n
+    below-couples {x} h = subst (λ (c : Couples). x < c .n) (sym e) h
+
+    -- what their leaf promises is of the set's numbers
+    pub couples-leaf : {cell : ℕ} {old new : List ℕ} {leaf : Leaf} → LeafOf (c .n) (coupledRule c) cell old new leaf
+        → LeafOf (s .n) (coupledRule (couplesOf s)) cell old new leaf
+    couples-leaf {cell} {old} {new} {leaf} o = subst (λ (c : Couples). LeafOf (c .n) (coupledRule c) cell old new leaf) e o
+
+    pub couples-one : (asked : Way) (x : ℕ) → inWay asked (c .n) (coupledRule c) .l x ≡ inWay asked (s .n) (coupledRule (couplesOf s)) .l x
+    couples-one asked x = ap (λ (c : Couples). inWay asked (c .n) (coupledRule c) .l x) e
 
 -- what a leaf promises of the rule that it serves, it promises of the set's, in the way that it was asked for
 module _ (s : Set) {q : Rule} (e : q ≡ ruleOf s) (asked : Way) {way : Way} (p : way ≡ asked) where

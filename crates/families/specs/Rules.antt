@@ -10,10 +10,10 @@ use Rattle.laws.specs.declared.Way.the-variants.{Interleaver, Deinterleaver}
 use Rattle.laws.specs.Walk.{Rule, inWay, Lawful, lawful-in}
 use Rattle.sets.specs.declared.Set.{Set}
 use Rattle.profiles.specs.declared.Family.{Family}
-use Rattle.profiles.specs.declared.Family.the-variants.{Carrier, Spatial, Turbo, Quadratic}
-use Rattle.sets.specs.Set.{familyOf, rowsOf, rotationOf, groupOf, f1, f2}
+use Rattle.profiles.specs.declared.Family.the-variants.{Carrier, Spatial, Turbo, Quadratic, Coupled}
+use Rattle.sets.specs.Set.{familyOf, rowsOf, rotationOf, groupOf, f1, f2, couplesOf}
 use Rattle.sets.specs.Verdict.{verdictOf}
-use Rattle.sets.specs.Carried.{carrier-size, spatial-size, stream-in, turbo-size, quadratic-size}
+use Rattle.sets.specs.Carried.{carrier-size, spatial-size, stream-in, turbo-size, quadratic-size, coupled-size}
 use Rattle.carrier.specs.Formula.{carrierL, carrierM, carrierRule}
 use Rattle.carrier.specs.Once.{carrier-lawful}
 use Rattle.carrier.specs.Third.{turn, spatialL, spatialM, spatialRule}
@@ -22,14 +22,17 @@ use Rattle.wcdma.specs.Turbo.{turboRule}
 use Rattle.wcdma.specs.Law.{turbo-lawful}
 use Rattle.quadratic.specs.Formula.{quadraticRule}
 use Rattle.quadratic.specs.Law.{quadratic-lawful}
+use Rattle.couples.specs.Formula.{coupledRule}
+use Rattle.couples.specs.Law.{coupled-lawful}
 
 -- the rule of a set of a family: of the carrier interleavers by d, N and s, of spatial streams by bits, r and the
--- stream as well, of the turbo interleaver by K, of the quadratic interleaver by K, f1 and f2
+-- stream as well, of the turbo interleaver by K, of the quadratic interleaver by K, f1 and f2, of couples by N and P0 to P3
 abbrev pub familyRule : Family → Set → Rule
 familyRule Carrier s = carrierRule (rowsOf s) (s .n) (groupOf s)
 familyRule Spatial s = spatialRule (rowsOf s) (s .n) (groupOf s) (s .bits) (rotationOf s) (s .stream)
 familyRule Turbo s = turboRule (s .n)
 familyRule Quadratic s = quadraticRule (s .n) (f1 s) (f2 s)
+familyRule Coupled s = coupledRule (couplesOf s)
 
 -- its M is not walked: the walk for M is refused with 1
 abbrev pub oneWay : Family → Bool
@@ -37,11 +40,12 @@ oneWay Carrier = false
 oneWay Spatial = false
 oneWay Turbo = true
 oneWay Quadratic = true
+oneWay Coupled = true
 
 unfoldable pub ruleOf : Set → Rule
 ruleOf s = familyRule (familyOf s) s
 
--- L: output t holds input L(t)
+-- L: output t holds input L(t). Of couples these are couples (specs/Symbols.antt has their symbols)
 abbrev pub L : Set → ℕ → ℕ
 L s = ruleOf s .l
 
@@ -83,6 +87,9 @@ lawful s e = go (familyOf s) refl
     go Quadratic q =
         let z = quadratic-size s e q in
         quadratic-lawful (s .n) (f1 s) (f2 s) (z .size) (omega (arith, z .small)) (z .apart)
+    go Coupled q =
+        let z = coupled-size s e q in
+        coupled-lawful (couplesOf s) (z .numbered .size) (z .four) (omega (arith, z .most)) (z .apart)
 
 pub lawful-way : (way : Way) (s : Set) → verdictOf s ≡ done tt → Lawful (s .n) (ruleIn way s)
 lawful-way way s e = lawful-in (lawful s e) way

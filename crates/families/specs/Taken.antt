@@ -15,8 +15,8 @@ use Rattle.laws.specs.Walk as along
 use Rattle.laws.specs.Leaves.{Fits, leaf-fits}
 use Rattle.sets.specs.declared.Set.{Set}
 use Rattle.profiles.specs.declared.Family.{Family}
-use Rattle.sets.specs.Set.{familyOf, isTurbo, isSpatial, isQuadratic}
-use Rattle.profiles.specs.declared.Family.the-variants.{Carrier, Spatial, Turbo, Quadratic}
+use Rattle.sets.specs.Set.{familyOf, isTurbo, isSpatial, isQuadratic, isCoupled}
+use Rattle.profiles.specs.declared.Family.the-variants.{Carrier, Spatial, Turbo, Quadratic, Coupled}
 use Rattle.sets.specs.Admits.{Accepted}
 use Rattle.families.specs.Rules.{ruleIn, oneWay, barred, lawful-way}
 
@@ -25,7 +25,7 @@ pub record Taken (s : Set) (family : Family) : Type 0 where
   pub accepted : Accepted s
   pub which : familyOf s ≡ family
 
--- the family, by the questions (that of the quadratic interleaver is in specs/Beside.antt of sets)
+-- the family, by the questions (those of the quadratic interleaver and of couples are in specs/Beside.antt of sets)
 pub the-turbo : (s : Set) → isTurbo (familyOf s) ≡ true → familyOf s ≡ Turbo
 the-turbo s e = go (familyOf s) e
   where
@@ -34,6 +34,7 @@ the-turbo s e = go (familyOf s) e
     go Spatial e = absurd (false≢true e)
     go Turbo e = refl
     go Quadratic e = absurd (false≢true e)
+    go Coupled e = absurd (false≢true e)
 
 pub the-spatial : (s : Set) → isSpatial (familyOf s) ≡ true → familyOf s ≡ Spatial
 the-spatial s e = go (familyOf s) e
@@ -43,22 +44,26 @@ the-spatial s e = go (familyOf s) e
     go Spatial e = refl
     go Turbo e = absurd (false≢true e)
     go Quadratic e = absurd (false≢true e)
+    go Coupled e = absurd (false≢true e)
 
-pub the-carrier : (s : Set) → isTurbo (familyOf s) ≡ false → isSpatial (familyOf s) ≡ false → isQuadratic (familyOf s) ≡ false → familyOf s ≡ Carrier
-the-carrier s e o u = go (familyOf s) e o u
+pub the-carrier : (s : Set) → isTurbo (familyOf s) ≡ false → isSpatial (familyOf s) ≡ false → isQuadratic (familyOf s) ≡ false → isCoupled (familyOf s) ≡ false
+    → familyOf s ≡ Carrier
+the-carrier s e o u v = go (familyOf s) e o u v
   where
-    go : (f : Family) → isTurbo f ≡ false → isSpatial f ≡ false → isQuadratic f ≡ false → f ≡ Carrier
-    go Carrier e o u = refl
-    go Spatial e o u = absurd (true≢false o)
-    go Turbo e o u = absurd (true≢false e)
-    go Quadratic e o u = absurd (true≢false u)
+    go : (f : Family) → isTurbo f ≡ false → isSpatial f ≡ false → isQuadratic f ≡ false → isCoupled f ≡ false → f ≡ Carrier
+    go Carrier e o u v = refl
+    go Spatial e o u v = absurd (true≢false o)
+    go Turbo e o u v = absurd (true≢false e)
+    go Quadratic e o u v = absurd (true≢false u)
+    go Coupled e o u v = absurd (true≢false v)
 
 -- the families whose M is not walked
-pub one-way : (f : Family) → (isTurbo f || isQuadratic f) ≡ oneWay f
+pub one-way : (f : Family) → (isTurbo f || (isQuadratic f || isCoupled f)) ≡ oneWay f
 one-way Carrier = refl
 one-way Spatial = refl
 one-way Turbo = refl
 one-way Quadratic = refl
+one-way Coupled = refl
 
 -- and the walk of a way is had
 pub record Walkable (way : Way) (s : Set) : Type 0 where

@@ -11,7 +11,7 @@ ghost use Prim.Native.Nat.{max, _<_};
 ghost use lib.Dec.{leb, eqb};
 ghost use Rattle.laws.specs.Members.{oneOf, multiple};
 ghost use Rattle.laws.specs.Next.{Next};
-ghost use Rattle.profiles.specs.declared.Form.the-variants.{Tiered};
+ghost use Rattle.profiles.specs.declared.Form.the-variants.{Tiered, Fours};
 ghost use Rattle.profiles.specs.Profiles.{doubles, sizeIn};
 ghost use Rattle.sizes.specs.Size.{size};
 ghost use Rattle.sizes.specs.Tests.{profileListed, bitsListed};
@@ -97,6 +97,14 @@ fn next_tiered(u: u32, m: u32, n: u32) -> u32
     next_multiple(step_by(first), m, first)
 }
 
+// Of the multiples of 4 from u to m.
+fn next_by_four(u: u32, m: u32, n: u32) -> u32
+    requires { ⌜ (0 < u) × (m < 65536) ⌝ }
+    ensures { λ r. ⌜ Next (sizeIn Fours u m 1) n r ⌝ }
+{
+    next_multiple(4, m, at_least(n, u))
+}
+
 // By the profile's form. The bits are listed, so that no product wraps.
 fn next_listed(size: Size) -> u32
     requires { ⌜ (profileListed size ≡ true) × (bitsListed size ≡ true) ⌝ }
@@ -114,6 +122,7 @@ fn next_listed(size: Size) -> u32
         Form::Grouped => next_multiple(a.unit * group_by(b), a.limit, n),
         Form::Range => next_in_range(a.unit, a.limit, n),
         Form::Tiered => next_tiered(a.unit, a.limit, n),
+        Form::Fours => next_by_four(a.unit, a.limit, n),
     }
 }
 

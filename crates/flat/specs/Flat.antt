@@ -13,6 +13,7 @@ use Rattle.sets.specs.declared.Set.{Set}
 use Rattle.sets.specs.declared.Refusal.{Refusal}
 use Rattle.walks.specs.declared.Walk.{Walk}
 use Rattle.walks.specs.Answer.{Values, walkedOf}
+use Rattle.families.specs.Symbols.{symbolsOf}
 use Rattle.tables.specs.Answer.{movedOf}
 use Rattle.kinds.specs.declared.Stream.{Stream}
 use Rattle.streams.specs.Answers.{Call, call}
@@ -65,12 +66,12 @@ lent-again s l =
 abbrev pub lentWalk : Way → List ℕ → ℕ → List ℕ → Outcome Refusal Values
 lentWalk way set cell out = walkedOf way (walkOf set cell) (length out)
 
--- .. a block of N, and one of N symbols of w bytes
+-- .. a block of symbols of one entry, and one of symbols of w bytes
 abbrev pub lentBlock : {A : Type 0} → List ℕ → List A → List A → Outcome Refusal (Unit {0})
-lentBlock set src dst = movedOf (setOf set) (setOf set .n) (length src) (length dst)
+lentBlock set src dst = movedOf (setOf set) (symbolsOf (setOf set)) (length src) (length dst)
 
 abbrev pub lentSymbols : {A : Type 0} → List ℕ → ℕ → List A → List A → Outcome Refusal (Unit {0})
-lentSymbols set w src dst = movedOf (setOf set) (setOf set .n * w) (length src) (length dst)
+lentSymbols set w src dst = movedOf (setOf set) (symbolsOf (setOf set) * w) (length src) (length dst)
 
 -- .. and a feed
 abbrev pub lentFeed : {A : Type 0} → Way → List ℕ → List A → List A → List A → Call A

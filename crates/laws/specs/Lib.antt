@@ -32,6 +32,7 @@ pub mod Euclid
 pub mod Split
 pub mod Shared
 pub mod Stepped
+pub mod Resting
 pub mod Least
 pub mod Next
 pub mod Seek

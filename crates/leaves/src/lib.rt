@@ -16,7 +16,9 @@ pub fn is_barred(way: Way, set: Set) -> bool
 {
     match way {
         Way::Interleaver => false,
-        Way::Deinterleaver => sets::is_turbo(set) | sets::is_quadratic(set),
+        Way::Deinterleaver => {
+            sets::is_turbo(set) | (sets::is_quadratic(set) | sets::is_coupled(set))
+        }
     }
 }
 
@@ -34,6 +36,9 @@ pub fn walk(way: Way, set: Set, cell: usize, out: &mut [u16]) -> Leaf
     if sets::is_quadratic(set) {
         return quadratic_sets::walk(way, set, cell, out);
     }
+    if sets::is_coupled(set) {
+        return couples_sets::walk(way, set, cell, out);
+    }
     carrier_sets::walk(way, set, cell, out)
 }
 
@@ -50,6 +55,9 @@ pub fn address(way: Way, set: Set, x: usize) -> usize
     }
     if sets::is_quadratic(set) {
         return quadratic_sets::address(way, set, x);
+    }
+    if sets::is_coupled(set) {
+        return couples_sets::address(way, set, x);
     }
     carrier_sets::address(way, set, x)
 }

@@ -7,7 +7,7 @@ ghost use Rattle.blocks.specs.Answer.{moved};
 ghost use Rattle.symbols.specs.Answer.{movedSymbols};
 ghost use Rattle.flat.specs.Flat.{setOf, lentBlock, lentSymbols, numberOf};
 
-// Moves N bytes, either way.
+// Moves a block of bytes, either way.
 pub fn move_bytes(way: Way, set: &[u32; SET], src: &[u8], dst: &mut [u8]) -> u32
     ensures number { λ r. ⌜ r ≡ numberOf (lentBlock (now (set .entry)) (now (src .entry)) (now (dst .entry))) ⌝ }
     ensures output { λ r. ⌜ now (dst .exit)
@@ -16,7 +16,7 @@ pub fn move_bytes(way: Way, set: &[u32; SET], src: &[u8], dst: &mut [u8]) -> u32
     flat::told(blocks::bytes::move_block(way, flat::set_of(set), src, dst))
 }
 
-// Moves N soft values, either way.
+// Moves a block of soft values, either way.
 pub fn move_soft(way: Way, set: &[u32; SET], src: &[f32], dst: &mut [f32]) -> u32
     ensures number { λ r. ⌜ r ≡ numberOf (lentBlock (now (set .entry)) (now (src .entry)) (now (dst .entry))) ⌝ }
     ensures output { λ r. ⌜ now (dst .exit)
@@ -25,7 +25,7 @@ pub fn move_soft(way: Way, set: &[u32; SET], src: &[f32], dst: &mut [f32]) -> u3
     flat::told(blocks::soft::move_block(way, flat::set_of(set), src, dst))
 }
 
-// Moves N symbols of `width` bytes, either way.
+// Moves a block of symbols of `width` bytes, either way.
 pub fn move_symbols(way: Way, set: &[u32; SET], width: u32, src: &[u8], dst: &mut [u8]) -> u32
     ensures number { λ r. ⌜ r ≡ numberOf (lentSymbols (now (set .entry)) width (now (src .entry)) (now (dst .entry))) ⌝ }
     ensures output { λ r. ⌜ now (dst .exit)

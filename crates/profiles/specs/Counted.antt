@@ -14,10 +14,10 @@ use Rattle.laws.specs.Keep.{keep}
 use Rattle.laws.specs.Cut.{keep-has}
 use Rattle.laws.specs.Members.{both, every, at-each, All, all-tested, by-member, oneOf, one-of, multiple-of}
 use Rattle.profiles.specs.declared.Form.{Form}
-use Rattle.profiles.specs.declared.Form.the-variants.{Only, Doubled, Multiple, Grouped, Range, Tiered}
+use Rattle.profiles.specs.declared.Form.the-variants.{Only, Doubled, Multiple, Grouped, Range, Tiered, Fours}
 use Rattle.profiles.specs.declared.Admitted.{Admitted}
 use Rattle.profiles.specs.Entry.{Row, Entry, some, multiples}
-use Rattle.profiles.specs.Profiles.{turboSizes, lteSizes, turbo, carriers, spatials, quadratics, profiles, entryBy}
+use Rattle.profiles.specs.Profiles.{turboSizes, lteSizes, coupleSizes, turbo, carriers, spatials, quadratics, coupleds, profiles, entryBy}
 use Rattle.profiles.specs.Profiles.{groupBy, stepBy, bitsOf, bitsIn, doubles, sizeIn, sizeBy}
 use Rattle.profiles.specs.Entered.{in-profiles, every-profile}
 
@@ -38,6 +38,7 @@ formSizes Multiple u m b = multiples (u * b) (m / (u * b))
 formSizes Grouped u m b = multiples (u * groupBy b) (m / (u * groupBy b))
 formSizes Range u m b = run (λ j. u + j) 0 (m + 1 - u)
 formSizes Tiered u m b = keep (λ j. 8 * j) (sizeIn Tiered u m b) (u / 8) (m / 8 + 1 - u / 8)
+formSizes Fours u m b = run (λ j. 4 * j) (u / 4) (m / 4 + 1 - u / 4)
 
 group-pos : (b : ℕ) → 0 < groupBy b
 group-pos b = go (eqb b 6) (eqb b 4)
@@ -76,6 +77,13 @@ in-form Tiered u m b n hu hb e =
     Memᴰ·cast {a = n} w
     (keep-has (λ j. 8 * j) (sizeIn Tiered u m b) (u / 8) (m / 8 + 1 - u / 8) (n / 8) (omega arith) (omega arith)
     (subst (λ (x : ℕ). sizeIn Tiered u m b x ≡ true) w e))
+in-form Fours u m b n hu hb e =
+    let q = both (leb u n) _ e in
+    let r = both (leb n m) _ (q .1) in
+    let lo = leb-true u n (q .0) in
+    let hi = leb-true n m (r .0) in
+    let w : n ≡ 4 * (n / 4) = omega (arith, eqb-true (n % 4) 0 (r .1)) in
+    Memᴰ·cast {a = n} w (run-mem (λ j. 4 * j) (u / 4) (m / 4 + 1 - u / 4) (n / 4) (omega arith) (omega arith))
 
 -- lists that are the same, as a test
 sameList : List ℕ → List ℕ → Bool
@@ -134,6 +142,10 @@ quadratics-counted : every counted quadratics ≡ true
 unfolding counted hasRow rowCounted sameList lteSizes keep
 quadratics-counted = refl
 
+coupleds-counted : every counted coupleds ≡ true
+unfolding counted hasRow rowCounted sameList coupleSizes
+coupleds-counted = refl
+
 -- the sizes of the turbo profile are 40 to 5,114
 pub turbo-range : {n : ℕ} → List·Memᴰ n turboSizes → (40 ≤ n) × (n ≤ 5114)
 unfolding turboSizes
@@ -148,7 +160,7 @@ turbo-counted = record {
 }
 
 all-counted : All Counted profiles
-all-counted = every-profile Counted counted counted-holds carriers-counted turbo-counted spatials-counted quadratics-counted
+all-counted = every-profile Counted counted counted-holds carriers-counted turbo-counted spatials-counted quadratics-counted coupleds-counted
 
 -- so of the entry of every number
 pub entry-counted : (p : ℕ) → Counted (entryBy p)

@@ -13,15 +13,15 @@ use Rattle.laws.specs.Outcome.{apart}
 use Rattle.laws.specs.Run.{run, run-mem}
 use Rattle.laws.specs.Members.{All, all-join, all-tested, every, at-each, by-member}
 use Rattle.profiles.specs.declared.Family.{Family}
-use Rattle.profiles.specs.declared.Family.the-variants.{Carrier, Spatial, Turbo, Quadratic}
+use Rattle.profiles.specs.declared.Family.the-variants.{Carrier, Spatial, Turbo, Quadratic, Coupled}
 use Rattle.profiles.specs.declared.Bits.{Bits}
 use Rattle.profiles.specs.declared.Bits.the-variants.{Each, Even, One}
 use Rattle.profiles.specs.declared.Form.{Form}
-use Rattle.profiles.specs.declared.Form.the-variants.{Only, Doubled, Multiple, Grouped, Range, Tiered}
+use Rattle.profiles.specs.declared.Form.the-variants.{Only, Doubled, Multiple, Grouped, Range, Tiered, Fours}
 use Rattle.profiles.specs.declared.Numbers.{Numbers}
 use Rattle.profiles.specs.declared.Admitted.{Admitted}
 use Rattle.profiles.specs.Entry.{Entry, numbers, admitted}
-use Rattle.profiles.specs.Profiles.{ofdm, turbo, carriers, turbos, spatials, quadratics, profiles, lastProfile, beyond, among, ends, inTable, entryBy, familyBy, numbersBy, admittedBy}
+use Rattle.profiles.specs.Profiles.{ofdm, turbo, carriers, turbos, spatials, quadratics, coupleds, profiles, lastProfile, beyond, among, ends, inTable, entryBy, familyBy, numbersBy, admittedBy}
 
 -- families, bits and forms as numbers
 abbrev pub familyTag : Family → ℕ
@@ -29,6 +29,7 @@ familyTag Carrier = 0
 familyTag Spatial = 1
 familyTag Turbo = 2
 familyTag Quadratic = 3
+familyTag Coupled = 4
 
 abbrev pub bitsTag : Bits → ℕ
 bitsTag Each = 0
@@ -42,6 +43,7 @@ formTag Multiple = 2
 formTag Grouped = 3
 formTag Range = 4
 formTag Tiered = 5
+formTag Fours = 6
 
 -- the same of two entries, part by part
 abbrev pub SameNumbers : Numbers → Numbers → Type 0
@@ -105,11 +107,12 @@ in-profiles p = ⊎-elim (λ e. Memᴰ·cast e (end (eqb p 0))) (λ m. m) (List�
 
 -- what a test shows of those entries that it is computed of, and is shown of the turbo one, holds of every profile
 pub every-profile : (P : Entry → Type 0) (test : Entry → Bool) → ((q : Entry) → test q ≡ true → P q) → every test carriers ≡ true → P turbo
-    → every test spatials ≡ true → every test quadratics ≡ true → All P profiles
-every-profile P test show c t s q =
-    all-join P carriers (turbos ++ (spatials ++ quadratics)) (all-tested test show carriers c)
-    (all-join P turbos (spatials ++ quadratics) (t, tt)
-    (all-join P spatials quadratics (all-tested test show spatials s) (all-tested test show quadratics q)))
+    → every test spatials ≡ true → every test quadratics ≡ true → every test coupleds ≡ true → All P profiles
+every-profile P test show c t s q u =
+    all-join P carriers (turbos ++ (spatials ++ (quadratics ++ coupleds))) (all-tested test show carriers c)
+    (all-join P turbos (spatials ++ (quadratics ++ coupleds)) (t, tt)
+    (all-join P spatials (quadratics ++ coupleds) (all-tested test show spatials s)
+    (all-join P quadratics coupleds (all-tested test show quadratics q) (all-tested test show coupleds u))))
 
 -- what holds of the entries by their numbers holds of the entry of every number
 pub entered-is : (Same : Entry → Type 0) (p : ℕ) → AsEntered Same p → Same (entryBy p)
@@ -131,13 +134,14 @@ pub families-apart : (f g : Family) → familyTag f ≡ familyTag g → f ≡ g
 families-apart = apart familyTag read same
   where
     read : ℕ → Family
-    read t = cond (eqb t 0) Carrier (cond (eqb t 1) Spatial (cond (eqb t 2) Turbo Quadratic))
+    read t = cond (eqb t 0) Carrier (cond (eqb t 1) Spatial (cond (eqb t 2) Turbo (cond (eqb t 3) Quadratic Coupled)))
 
     same : (f : Family) → read (familyTag f) ≡ f
     same Carrier = refl
     same Spatial = refl
     same Turbo = refl
     same Quadratic = refl
+    same Coupled = refl
 
 bits-apart : (f g : Bits) → bitsTag f ≡ bitsTag g → f ≡ g
 bits-apart = apart bitsTag read same
@@ -154,7 +158,7 @@ forms-apart : (f g : Form) → formTag f ≡ formTag g → f ≡ g
 forms-apart = apart formTag read same
   where
     read : ℕ → Form
-    read t = cond (eqb t 0) Only (cond (eqb t 1) Doubled (cond (eqb t 2) Multiple (cond (eqb t 3) Grouped (cond (eqb t 4) Range Tiered))))
+    read t = cond (eqb t 0) Only (cond (eqb t 1) Doubled (cond (eqb t 2) Multiple (cond (eqb t 3) Grouped (cond (eqb t 4) Range (cond (eqb t 5) Tiered Fours)))))
 
     same : (f : Form) → read (formTag f) ≡ f
     same Only = refl
@@ -163,6 +167,7 @@ forms-apart = apart formTag read same
     same Grouped = refl
     same Range = refl
     same Tiered = refl
+    same Fours = refl
 
 pub family-entered : (p : ℕ) (f : Family) → FamilyEntered p f → f ≡ familyBy p
 family-entered p f h = families-apart f _ (entered-is (λ q. familyTag f ≡ familyTag (q .family)) p h)

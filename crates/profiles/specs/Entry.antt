@@ -1,5 +1,5 @@
 -- An entry of a table of profiles: what a profile is in numbers, and what it admits, counted out in rows, one for each of its bits, with the N that go
--- with them. Over any table; specs/Profiles.antt has the one of document 01 and of requests 4 and 6.
+-- with them. Over any table; specs/Profiles.antt has the one of document 01 and of requests 4, 6 and 12.
 use mathlib.Core.Path.{_≡_, refl}
 use mathlib.Core.Bool.{Bool, true, false, false≢true}
 use mathlib.Core.List.{List, [], _∷_, List·Memᴰ, List·Memᴰ·head}

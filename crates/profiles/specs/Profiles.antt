@@ -1,5 +1,5 @@
 -- The profiles: what each is in numbers, and what it admits, counted out with no remainder taken anywhere: document 01's table "Profiles and what
--- each admits", change request 4's profiles 6 and 7, and change request 6's profile 8. Then the tests of bits and N that the numbers make; specs/Counted.antt, with
+-- each admits", change request 4's profiles 6 and 7, change request 6's profile 8, and change request 12's profile 9. Then the tests of bits and N that the numbers make; specs/Counted.antt, with
 -- specs/Listed.antt of sizes, shows that they and the count agree. What is proved of a further profile of carriers, of one stream or of four, needs its lines here and in src/table.rt, and no
 -- others, as far as N is at most 1,536 and its unit below 1,000. These are definitions.
 use mathlib.Core.Bool.{Bool, cond, _&&_}
@@ -9,11 +9,11 @@ use lib.Dec.{leb, eqb}
 use Rattle.laws.specs.Run.{run}
 use Rattle.laws.specs.Members.{oneOf, multiple}
 use Rattle.profiles.specs.declared.Family.{Family}
-use Rattle.profiles.specs.declared.Family.the-variants.{Carrier, Spatial, Turbo, Quadratic}
+use Rattle.profiles.specs.declared.Family.the-variants.{Carrier, Spatial, Turbo, Quadratic, Coupled}
 use Rattle.profiles.specs.declared.Bits.{Bits}
 use Rattle.profiles.specs.declared.Bits.the-variants.{Each, Even, One}
 use Rattle.profiles.specs.declared.Form.{Form}
-use Rattle.profiles.specs.declared.Form.the-variants.{Only, Doubled, Multiple, Grouped, Range, Tiered}
+use Rattle.profiles.specs.declared.Form.the-variants.{Only, Doubled, Multiple, Grouped, Range, Tiered, Fours}
 use Rattle.profiles.specs.declared.Numbers.{Numbers}
 use Rattle.profiles.specs.declared.Admitted.{Admitted}
 use Rattle.profiles.specs.Entry.{row, Entry, numbers, admitted, multiples, onwards}
@@ -113,6 +113,19 @@ lte = record {
   rows = row 1 lteSizes ∷ [];
 }
 
+-- 9, the couples of the turbo code of IEEE 802.16: bits 1; N couples, N a multiple of 4 from 24 to 2,400
+unfoldable pub coupleSizes : List ℕ
+coupleSizes = onwards 24 4 595
+
+abbrev pub wimax : Entry
+wimax = record {
+  number = 9;
+  family = Coupled;
+  numbers = numbers 0 0 1;
+  admitted = admitted One Fours 24 2400;
+  rows = row 1 coupleSizes ∷ [];
+}
+
 -- the profiles, by family
 abbrev pub carriers : List Entry
 carriers = ofdm ∷ ofdma ∷ wlan ∷ bench ∷ []
@@ -126,11 +139,14 @@ spatials = ht20 ∷ ht40 ∷ []
 abbrev pub quadratics : List Entry
 quadratics = lte ∷ []
 
+abbrev pub coupleds : List Entry
+coupleds = wimax ∷ []
+
 abbrev pub profiles : List Entry
-profiles = carriers ++ (turbos ++ (spatials ++ quadratics))
+profiles = carriers ++ (turbos ++ (spatials ++ (quadratics ++ coupleds)))
 
 abbrev pub lastProfile : ℕ
-lastProfile = 8
+lastProfile = 9
 
 -- the profile whose entry stands for the numbers past the last: one whose M is walked, so that 1 is said of such a number for itself alone
 abbrev pub beyond : ℕ
@@ -196,6 +212,7 @@ sizeIn Multiple u m b n = multiple (u * b) m n
 sizeIn Grouped u m b n = multiple (u * groupBy b) m n
 sizeIn Range u m b n = leb u n && leb n m
 sizeIn Tiered u m b n = leb u n && (leb n m && eqb (n % stepBy n) 0)
+sizeIn Fours u m b n = leb u n && (leb n m && eqb (n % 4) 0)
 
 abbrev pub sizeBy : Admitted → ℕ → ℕ → Bool
 sizeBy a b n = sizeIn (a .form) (a .unit) (a .limit) b n

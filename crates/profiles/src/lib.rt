@@ -12,6 +12,7 @@ pub enum Family {
     Spatial,
     Turbo,
     Quadratic,
+    Coupled,
 }
 
 // The numbers of a profile's formulas: d, the rows of a carrier interleaver; r, N_ROT of IEEE 802.11n; and how many streams there are. One that the
@@ -30,6 +31,7 @@ pub enum Form {
     Grouped, // the multiples of unit times s, up to the limit
     Range, // unit to the limit
     Tiered, // unit to the limit by 8, past 512 by 16, past 1,024 by 32, past 2,048 by 64
+    Fours, // the multiples of 4 from unit to the limit
 }
 
 // The bits per carrier of a profile.

@@ -9,10 +9,10 @@ ghost use Rattle.profiles.specs.Entered.{FamilyEntered, NumbersEntered, 
 
 // The profiles are numbered from 1 to this. A number below 1 is answered as 1 is, and one above this as 7 is (`entryBy` in
 // specs/Profiles.antt).
-pub(super) const LAST: u32 = 8;
+pub(super) const LAST: u32 = 9;
 
 // Which family: 1 to 4 are carrier interleavers, 5 (3GPP TS 25.212) is the turbo interleaver, 6 and 7 (IEEE 802.11n) are of spatial streams, 8 (3GPP
-// TS 36.212) is the quadratic interleaver.
+// TS 36.212) is the quadratic interleaver, 9 (IEEE 802.16) is of couples.
 pub(super) fn family(profile: u32) -> Family
     ensures { λ r. ⌜ FamilyEntered profile r ⌝ }
 {
@@ -24,6 +24,9 @@ pub(super) fn family(profile: u32) -> Family
     }
     if profile == 8 {
         return Family::Quadratic;
+    }
+    if profile == 9 {
+        return Family::Coupled;
     }
     Family::Spatial
 }
@@ -61,6 +64,13 @@ pub(super) fn numbers(profile: u32) -> Numbers
         };
     }
     if profile == 8 {
+        return Numbers {
+            d: 0,
+            r: 0,
+            streams: 1,
+        };
+    }
+    if profile == 9 {
         return Numbers {
             d: 0,
             r: 0,
@@ -132,6 +142,14 @@ pub(super) fn admitted(profile: u32) -> Admitted
             form: Form::Tiered,
             unit: 40,
             limit: 6144,
+        };
+    }
+    if profile == 9 {
+        return Admitted {
+            bits: Bits::One,
+            form: Form::Fours,
+            unit: 24,
+            limit: 2400,
         };
     }
     Admitted {

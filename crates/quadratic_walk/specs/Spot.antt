@@ -1,13 +1,13 @@
 -- Where a walk stands and how it steps: the address at t + 1 is that at t and a difference more, which grows by 2·f2, both modulo K. Then the
--- walk from a cell on, and the search for the position of an address, as Stepped and Seek of laws have them.
+-- walk from a cell on, and the search for the position of an address, as Stepped, Resting and Seek of laws have them.
 use mathlib.Core.List.{List}
-use mathlib.Core.Path.{_≡_, refl, sym, ap, ap₂, subst, _∙_}
+use mathlib.Core.Path.{_≡_, refl, sym, ap, ap₂, _∙_}
 use Prim.Native.Nat.{ℕ, _+_, _*_, _%_, _≤_, _<_}
-use native.Mathlib.Nat.{add-mod, mod-lt, mul-le-mul, le-antisymm}
+use native.Mathlib.Nat.{add-mod, mod-lt, mul-le-mul}
 use native.Mathlib.Omega.{arith}
-use lib.ListN.{length, set, length-set}
+use Rattle.laws.specs.Resting.{Family, StepOf}
 use Rattle.laws.specs.Seek.{Seeking}
-use Rattle.laws.specs.Stepped.{Stepped, stepped-next}
+use Rattle.laws.specs.Stepped.{Stepped}
 use Rattle.quadratic.specs.Formula.{quadraticL}
 use Rattle.quadratic_walk.specs.declared.Spot.{Spot}
 
@@ -108,39 +108,18 @@ Walking k f1 f2 cell count twice = Stepped (Ready k f1 f2 twice) (quadraticL k f
 abbrev pub OneOn : ℕ → ℕ → Spot → Spot → Type 0
 OneOn k twice at next = (f1 f2 t : ℕ) → twice ≡ 2 * f2 % k → SpotAt k f1 f2 t at → SpotAt k f1 f2 (t + 1) next
 
--- two positions on
-pub walk-two : {k f1 f2 cell count twice i : ℕ} {old out : List ℕ} {at second third : Spot} → i + 2 ≤ count → OneOn k twice at second
-    → OneOn k twice second third → Walking k f1 f2 cell count twice old out at i
-    → Walking k f1 f2 cell count twice old (set (set out i (at .value)) (i + 1) (second .value)) third (i + 2)
-walk-two {k} {f1} {f2} {cell} {count} {twice} {i} {old} {out} {at} {second} {third} h one two g =
-    let a = stepped-next g (omega arith) (g .state .value-is) (one f1 f2 (cell + i) (g .kept .twice-is) (g .state)) in
-    subst (λ (x : ℕ). Walking k f1 f2 cell count twice old (set (set out i (at .value)) (i + 1) (second .value)) third x) (omega arith)
-    (stepped-next a (omega arith) (a .state .value-is) (two f1 f2 (cell + (i + 1)) (a .kept .twice-is) (a .state)))
-
--- the rest of a walk, which was at entry `from` with `old` in the slice, at entry i: whatever it is the rest of, it has gone on
-pub record Resting (k twice count from : ℕ) (start : Spot) (old new : List ℕ) (at : Spot) (i : ℕ) : Type 0 where
-  pub within : SpotIn k twice at
-  pub far : i ≤ count
-  pub room : count ≤ length new
-  pub long : length new ≡ length old
-  pub gone-on : (f1 f2 cell : ℕ) (out₀ : List ℕ) → Walking k f1 f2 cell count twice out₀ old start from → Walking k f1 f2 cell count twice out₀ new at i
-
-pub rest-next : {k twice count from i : ℕ} {start at next : Spot} {old new : List ℕ} → i < count → Resting k twice count from start old new at i
-    → OneOn k twice at next → SpotIn k twice next → Resting k twice count from start old (set new i (at .value)) next (i + 1)
-rest-next {i = i} {at = at} {new = new} h r one p = record {
-  within = p;
-  far = omega arith;
-  room = omega (arith, r .room, length-set new i (at .value));
-  long = length-set new i (at .value) ∙ r .long;
-  gone-on = λ f1 f2 cell out₀ g.
-      let w = r .gone-on f1 f2 cell out₀ g in
-      stepped-next w h (w .state .value-is) (one f1 f2 (cell + i) (w .kept .twice-is) (w .state));
+-- the walks of the blocks of k positions whose 2·f2 is `twice`, by f1 and f2
+abbrev pub spots : ℕ → ℕ → Family Spot (ℕ × ℕ)
+spots k twice = record {
+  Kept = λ x. Ready k (x .0) (x .1) twice;
+  rule = λ x. quadraticL k (x .0) (x .1);
+  At = λ x. SpotAt k (x .0) (x .1);
+  entry = λ (at : Spot). at .value;
+  entry-is = λ x t at p. p .value-is;
 }
 
-pub rest-all : {k twice count from i : ℕ} {start at : Spot} {old new : List ℕ} → Resting k twice count from start old new at i → count ≤ i
-    → (f1 f2 cell : ℕ) (out₀ : List ℕ) → Walking k f1 f2 cell count twice out₀ old start from → Walking k f1 f2 cell count twice out₀ new at count
-rest-all {k} {twice} {count} {i = i} {at = at} {new = new} r h f1 f2 cell out₀ g =
-    subst (λ (x : ℕ). Walking k f1 f2 cell count twice out₀ new at x) (le-antisymm (r .far) h) (r .gone-on f1 f2 cell out₀ g)
+pub step-of : {k twice : ℕ} {at next : Spot} → OneOn k twice at next → StepOf (spots k twice) at next
+step-of one x t r p = one (x .0) (x .1) t (r .twice-is) p
 
 -- the search for the position of a
 abbrev pub Looking : ℕ → ℕ → ℕ → ℕ → ℕ → Spot → ℕ → Type 0

@@ -1,18 +1,20 @@
 -- What an accepted set is, by its family (specs/Fit.antt), its stream, its factors and its size.
-use mathlib.Core.Path.{_≡_, refl}
+use mathlib.Core.Path.{_≡_, refl, sym, _∙_}
 use mathlib.Core.Bool.{true}
-use Prim.Native.Nat.{_≤_, _<_}
+use Prim.Native.Nat.{_%_, _≤_, _<_}
 use native.Mathlib.Omega.{arith}
 use Rattle.laws.specs.Outcome.{done}
 use Rattle.profiles.specs.declared.Family.{Family}
-use Rattle.profiles.specs.declared.Family.the-variants.{Carrier, Spatial, Turbo, Quadratic}
+use Rattle.profiles.specs.declared.Family.the-variants.{Carrier, Spatial, Turbo, Quadratic, Coupled}
 use Rattle.sizes.specs.Admits.{listed-range}
 use Rattle.quadratic.specs.Formula.{allApart}
+use Rattle.couples.specs.Formula as pairs
+use Rattle.couples.specs.Test.{Numbered}
 use Rattle.sets.specs.declared.Set.{Set}
-use Rattle.sets.specs.Set.{sizeOf, familyOf, f1, f2}
+use Rattle.sets.specs.Set.{sizeOf, familyOf, f1, f2, couplesOf}
 use Rattle.sets.specs.Stream.{stream-true}
-use Rattle.sets.specs.Fit.{Carried, carrier-fit, spatial-fit, turbo-fit, quadratic-fit}
-use Rattle.sets.specs.Beside.{factors-range, factors-apart}
+use Rattle.sets.specs.Fit.{Carried, carrier-fit, spatial-fit, turbo-fit, quadratic-fit, coupled-fit}
+use Rattle.sets.specs.Beside.{factors-range, couples-numbered, apart-by}
 use Rattle.sets.specs.Verdict.{verdictOf}
 use Rattle.sets.specs.Admits.{accepted-listed, accepted-stream, accepted-factors}
 
@@ -23,6 +25,13 @@ pub record Squared (s : Set) : Type 0 where
   pub first-in : f1 s < s .n
   pub second-in : f2 s < s .n
   pub apart : allApart (s .n) (f1 s) (f2 s) ≡ true
+
+-- a block of couples: small enough, four numbers in their range, N a multiple of 4, and no couple shared
+pub record Paired (s : Set) : Type 0 where
+  pub most : s .n ≤ 2400
+  pub numbered : Numbered (couplesOf s)
+  pub four : s .n % 4 ≡ 0
+  pub apart : pairs.allApart (couplesOf s) ≡ true
 
 module _ (s : Set) (e : verdictOf s ≡ done tt) where
   pub carrier-size : familyOf s ≡ Carrier → Carried s
@@ -44,7 +53,18 @@ module _ (s : Set) (e : verdictOf s ≡ done tt) where
         small = z .1;
         first-in = r .0 .1;
         second-in = r .1 .1;
-        apart = factors-apart s q (t .1);
+        apart = sym (apart-by s q) ∙ t .1;
+      }
+
+  pub coupled-size : familyOf s ≡ Coupled → Paired s
+  coupled-size q =
+      let z = coupled-fit s (accepted-listed s e) q in
+      let t = accepted-factors s e in
+      record {
+        most = z .1;
+        numbered = couples-numbered s (accepted-listed s e) (t .0) q;
+        four = z .2;
+        apart = sym (apart-by s q) ∙ t .1;
       }
 
   -- the stream is 1 to 4
@@ -63,3 +83,4 @@ sizes-small s e = go (familyOf s) refl
     go Spatial q = omega (arith, spatial-size s e q .small)
     go Turbo q = omega (arith, turbo-size s e q .1)
     go Quadratic q = quadratic-size s e q .small
+    go Coupled q = omega (arith, coupled-size s e q .most)

@@ -1,6 +1,6 @@
 -- What a set of a listed size is. Of a carrier or a spatial profile: a block that the carrier laws hold for, N a positive multiple of d and N/d a
 -- multiple of s, and above 3·r·bits, which is the most that a stream is turned by. Of the turbo family: a size from 40 to 5,114. Of the quadratic
--- family: a multiple of 8 from 40 to 6,144. Read off the test of its size (specs/Fit.antt of sizes).
+-- family: a multiple of 8 from 40 to 6,144. Of couples: a multiple of 4 from 24 to 2,400. Read off the test of its size (specs/Fit.antt of sizes).
 use mathlib.Core.Path.{_≡_, sym, ap, _∙_}
 use mathlib.Core.Bool.{true}
 use mathlib.Core.List.{List·Memᴰ}
@@ -12,7 +12,7 @@ use borrow.Author.Tests.{leb-true, ltb-true, eqb-true}
 use Rattle.laws.specs.Members.{both}
 use Rattle.laws.specs.Sized.{Sized}
 use Rattle.profiles.specs.declared.Family.{Family}
-use Rattle.profiles.specs.declared.Family.the-variants.{Carrier, Spatial, Turbo, Quadratic}
+use Rattle.profiles.specs.declared.Family.the-variants.{Carrier, Spatial, Turbo, Quadratic, Coupled}
 use Rattle.sizes.specs.Tests.{listedSizes}
 use Rattle.sizes.specs.Fit.{divides, fitBy, fits-in, listed-pos}
 use Rattle.sets.specs.declared.Set.{Set}
@@ -66,3 +66,10 @@ module _ (s : Set) (m : List·Memᴰ (sizeOf s) listedSizes) where
       let p = both (leb 40 (s .n)) _ (fit-by e) in
       let q = both (leb (s .n) 6144) _ (p .1) in
       (leb-true 40 (s .n) (p .0), leb-true (s .n) 6144 (q .0), eqb-true (s .n % 8) 0 (q .1))
+
+  pub coupled-fit : familyOf s ≡ Coupled → (24 ≤ s .n) × (s .n ≤ 2400) × (s .n % 4 ≡ 0)
+  unfolding fitBy
+  coupled-fit e =
+      let p = both (leb 24 (s .n)) _ (fit-by e) in
+      let q = both (leb (s .n) 2400) _ (p .1) in
+      (leb-true 24 (s .n) (p .0), leb-true (s .n) 2400 (q .0), eqb-true (s .n % 4) 0 (q .1))

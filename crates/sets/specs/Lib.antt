@@ -2,6 +2,7 @@ pub mod Set
 pub mod Stream
 pub mod Numbered
 pub mod Fit
+pub mod Ranges
 pub mod Beside
 pub mod Verdict
 pub mod Admits
@@ -9,3 +10,5 @@ pub mod Handed
 pub mod Listed
 pub mod Carried
 pub mod Refusals
+pub mod OneRow
+pub mod Wimax

@@ -1,4 +1,4 @@
--- The refusals of a set in the sentences of document 01, 1, 2, 3, of request 4, 16, and of request 6, 11 and 10, in that order; and that a number is said
+-- The refusals of a set in the sentences of document 01, 1, 2, 3, of request 4, 16, and of requests 6 and 12, 11 and 10, in that order; and that a number is said
 -- exactly when its sentence is the first that holds. Lines of other calls may stand behind.
 use Prim.Native.Nat.{ℕ, _≤_}
 use mathlib.Core.Bool.{true}
@@ -22,7 +22,7 @@ use Rattle.sets.specs.Beside.{besideSentences, beside-told}
 use Rattle.sets.specs.Verdict.{sizeLines, setLines, refusal, verdictOf, refusal-number}
 use Rattle.sets.specs.Admits.{clear-listed}
 
--- the profile is 1 to 8
+-- the profile is 1 to 9
 abbrev pub ProfileListed : Size → Type 0
 ProfileListed z = (1 ≤ z .profile) × (z .profile ≤ lastProfile)
 
@@ -34,7 +34,7 @@ BitsListed z = (n : ℕ) × List·Memᴰ (size (z .profile) (z .bits) n) listedS
 abbrev pub SizeListed : Size → Type 0
 SizeListed z = List·Memᴰ z listedSizes
 
--- 1: the profile isn't 1 to 8; 2: the bits aren't listed for the profile; 3: N isn't listed for that profile and those bits
+-- 1: the profile isn't 1 to 9; 2: the bits aren't listed for the profile; 3: N isn't listed for that profile and those bits
 abbrev pub sizeSentences : Size → List Sentence
 sizeSentences z = sentence 1 (ProfileListed z → ⊥) ∷ sentence 2 (BitsListed z → ⊥) ∷ sentence 3 (SizeListed z → ⊥) ∷ []
 

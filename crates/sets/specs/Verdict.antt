@@ -19,7 +19,7 @@ use Rattle.fitting.specs.Fitting.{fitting}
 use Rattle.sets.specs.Stream.{streamLines}
 use Rattle.sets.specs.Beside.{besideLines}
 
--- 1: the profile isn't 1 to 8. 2: the bits aren't listed for the profile. 3: N isn't listed for that profile and those bits
+-- 1: the profile isn't 1 to 9. 2: the bits aren't listed for the profile. 3: N isn't listed for that profile and those bits
 abbrev pub sizeLines : Size → List Line
 sizeLines z =
     line 1 (not (profileListed z))

@@ -1,15 +1,17 @@
 // A parameter set, the test of one, and what a refusal carries.
 ghost use mathlib.Core.Path.{_≡_};
 ghost use Prim.Native.Nat.{_<_};
-ghost use Rattle.sets.specs.Set.{familyOf, isTurbo, isSpatial, isQuadratic, numbersOf, groupOf};
+ghost use Rattle.sets.specs.Set.{familyOf, isTurbo, isSpatial, isQuadratic, isCoupled, couplesOf, numbersOf, groupOf};
 ghost use Rattle.sets.specs.Stream.{streamListed};
 ghost use Rattle.sets.specs.Beside.{factorsIn, factorsApart, Testable};
 ghost use Rattle.sets.specs.Verdict.{refusal, sayRuled, sayVerdict, rulingOf, verdictOf, fittingOf};
+use couples::Couples;
 use profiles::Family;
 use profiles::Numbers;
 use sizes::Size;
 
-// The numbers that a set has beside its size and stream. Profile 8 reads the first two, which are its f1 and f2; no other profile reads any.
+// The numbers that a set has beside its size and stream. Profile 8 reads the first two, which are its f1 and f2, profile 9 all four, which are its P0 to
+// P3; no other profile reads any.
 pub struct Factors {
     pub first: u32,
     pub second: u32,
@@ -17,7 +19,7 @@ pub struct Factors {
     pub fourth: u32,
 }
 
-// A profile, bits per carrier, the block's size N, the spatial stream, which is 1 for a profile of one stream, and the factors. Any numbers may
+// A profile, bits per carrier, the block's size N (of profile 9 its couples), the spatial stream, which is 1 for a profile of one stream, and the factors. Any numbers may
 // be given.
 pub struct Set {
     pub profile: u32,
@@ -61,7 +63,7 @@ fn family_of(set: Set) -> Family
     profiles::family_by(set.profile)
 }
 
-// Whether the family is the turbo interleaver's, that of spatial streams, or the quadratic interleaver's. (Questions of two answers each, since the
+// Whether the family is the turbo interleaver's, that of spatial streams, the quadratic interleaver's, or that of couples. (Questions of two answers each, since the
 // compiler makes one comparison of each, and some ten instructions of a match on the families.)
 pub fn is_turbo(set: Set) -> bool
     ensures { λ r. ⌜ r ≡ isTurbo (familyOf set) ⌝ }
@@ -72,6 +74,7 @@ pub fn is_turbo(set: Set) -> bool
         Family::Spatial => false,
         Family::Turbo => true,
         Family::Quadratic => false,
+        Family::Coupled => false,
     }
 }
 
@@ -84,6 +87,7 @@ pub fn is_spatial(set: Set) -> bool
         Family::Spatial => true,
         Family::Turbo => false,
         Family::Quadratic => false,
+        Family::Coupled => false,
     }
 }
 
@@ -96,6 +100,33 @@ pub fn is_quadratic(set: Set) -> bool
         Family::Spatial => false,
         Family::Turbo => false,
         Family::Quadratic => true,
+        Family::Coupled => false,
+    }
+}
+
+pub fn is_coupled(set: Set) -> bool
+    ensures { λ r. ⌜ r ≡ isCoupled (familyOf set) ⌝ }
+{
+    let family = family_of(set);
+    match family {
+        Family::Carrier => false,
+        Family::Spatial => false,
+        Family::Turbo => false,
+        Family::Quadratic => false,
+        Family::Coupled => true,
+    }
+}
+
+// N couples, and P0 to P3.
+pub fn couples_of(set: Set) -> Couples
+    ensures { λ r. ⌜ r ≡ couplesOf set ⌝ }
+{
+    Couples {
+        n: set.n,
+        p0: set.factors.first,
+        p1: set.factors.second,
+        p2: set.factors.third,
+        p3: set.factors.fourth,
     }
 }
 
@@ -138,25 +169,32 @@ fn stream_listed(set: Set) -> bool
     (1 <= set.stream) & (set.stream <= numbers.streams)
 }
 
-// The factors that the family reads are from 1 to N - 1.
+// The factors that the family reads are in their range: f1 and f2 from 1 to K - 1, P0 to P3 below N.
 fn factors_in(set: Set) -> bool
     ensures { λ r. ⌜ r ≡ factorsIn set ⌝ }
 {
-    if !is_quadratic(set) {
-        return true;
+    if is_quadratic(set) {
+        return quadratic::is_within(set.n, set.factors.first)
+            & quadratic::is_within(set.n, set.factors.second);
     }
-    quadratic::is_within(set.n, set.factors.first) & quadratic::is_within(set.n, set.factors.second)
+    if is_coupled(set) {
+        return couples::all_below(couples_of(set));
+    }
+    true
 }
 
-// No two positions share an address. The factors have been tested.
+// No two positions share an address, no two outputs a couple. The factors have been tested.
 fn factors_apart(set: Set) -> bool
     requires { ⌜ Testable set ⌝ }
     ensures { λ r. ⌜ r ≡ factorsApart set ⌝ }
 {
-    if !is_quadratic(set) {
-        return true;
+    if is_quadratic(set) {
+        return quadratic::all_apart(set.n, set.factors.first, set.factors.second);
     }
-    quadratic::all_apart(set.n, set.factors.first, set.factors.second)
+    if is_coupled(set) {
+        return couples::all_apart(couples_of(set));
+    }
+    true
 }
 
 // Which line of the test applies first: 1, 2, 3, 16, 11, 10, in that order, and nothing more. (`rulings-apart` in specs/Verdict.antt: what is said leaves

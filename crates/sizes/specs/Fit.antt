@@ -1,5 +1,5 @@
 -- What a listed size is, as a test: no N is 0, and by the family it is more. Of a carrier or a spatial profile N is a multiple of d·s, at most 1,536 and above
--- 3·r·bits; of the turbo family it is from 40 to 5,114; of the quadratic family a multiple of 8 from 40 to 6,144. Computed over the sizes of the table, but for
+-- 3·r·bits; of the turbo family it is from 40 to 5,114; of the quadratic family a multiple of 8 from 40 to 6,144; of couples a multiple of 4 from 24 to 2,400. Computed over the sizes of the table, but for
 -- the turbo sizes, where it is shown. Rests on Tests, and on Counted of profiles.
 use mathlib.Core.Path.{_≡_, refl, sym, ap, _∙_}
 use mathlib.Core.Bool.{Bool, true, _&&_}
@@ -11,8 +11,8 @@ use lib.Dec.{leb, ltb, eqb}
 use borrow.Author.Tests.{le-leb, ltb-true, lt-ltb}
 use Rattle.laws.specs.Members.{both, every, at-each}
 use Rattle.profiles.specs.declared.Family.{Family}
-use Rattle.profiles.specs.declared.Family.the-variants.{Carrier, Spatial, Turbo, Quadratic}
-use Rattle.profiles.specs.Profiles.{familyBy, numbersBy, groupBy, entryBy, turboSizes, lteSizes, carriers, turbos, spatials, quadratics}
+use Rattle.profiles.specs.declared.Family.the-variants.{Carrier, Spatial, Turbo, Quadratic, Coupled}
+use Rattle.profiles.specs.Profiles.{familyBy, numbersBy, groupBy, entryBy, turboSizes, lteSizes, coupleSizes, carriers, turbos, spatials, quadratics, coupleds}
 use Rattle.profiles.specs.Counted.{turbo-range}
 use Rattle.sizes.specs.declared.Size.{Size}
 use Rattle.sizes.specs.Size.{size, allSizes, either-all}
@@ -31,6 +31,7 @@ fitBy Carrier z = divides z
 fitBy Spatial z = divides z
 fitBy Turbo z = leb 40 (z .n) && leb (z .n) 5114
 fitBy Quadratic z = leb 40 (z .n) && (leb (z .n) 6144 && eqb (z .n % 8) 0)
+fitBy Coupled z = leb 24 (z .n) && (leb (z .n) 2400 && eqb (z .n % 4) 0)
 
 fit : Size → Bool
 fit z = ltb 0 (z .n) && fitBy (familyBy (z .profile)) z
@@ -47,6 +48,10 @@ quadratics-fit : every fit (allSizes quadratics) ≡ true
 unfolding fit fitBy entryBy lteSizes
 quadratics-fit = refl
 
+coupleds-fit : every fit (allSizes coupleds) ≡ true
+unfolding fit fitBy entryBy coupleSizes
+coupleds-fit = refl
+
 turbos-fit : {z : Size} → List·Memᴰ z (allSizes turbos) → fit z ≡ true
 unfolding fit fitBy entryBy
 turbos-fit {z} m =
@@ -59,9 +64,11 @@ unfolding listedSizes
 listed-fit m =
     ⊎-elim (at-each fit (allSizes carriers) carriers-fit)
     (λ m. ⊎-elim turbos-fit
-    (λ m. ⊎-elim (at-each fit (allSizes spatials) spatials-fit) (at-each fit (allSizes quadratics) quadratics-fit) (either-all spatials quadratics m))
-    (either-all turbos (spatials ++ quadratics) m))
-    (either-all carriers (turbos ++ (spatials ++ quadratics)) m)
+    (λ m. ⊎-elim (at-each fit (allSizes spatials) spatials-fit)
+    (λ m. ⊎-elim (at-each fit (allSizes quadratics) quadratics-fit) (at-each fit (allSizes coupleds) coupleds-fit) (either-all quadratics coupleds m))
+    (either-all spatials (quadratics ++ coupleds) m))
+    (either-all turbos (spatials ++ (quadratics ++ coupleds)) m))
+    (either-all carriers (turbos ++ (spatials ++ (quadratics ++ coupleds))) m)
 
 -- no N of them is 0, and by the family it is more
 pub fits-in : {z : Size} → List·Memᴰ z listedSizes → (ltb 0 (z .n) ≡ true) × (fitBy (familyBy (z .profile)) z ≡ true)

@@ -17,7 +17,7 @@ use Rattle.profiles.specs.declared.Bits.the-variants as kinds
 use Rattle.profiles.specs.declared.Form.{Form}
 use Rattle.profiles.specs.declared.Admitted.{Admitted}
 use Rattle.profiles.specs.Entry.{Entry}
-use Rattle.profiles.specs.Profiles.{turboSizes, lteSizes, turbo, carriers, spatials, quadratics, profiles, entryBy, admittedBy}
+use Rattle.profiles.specs.Profiles.{turboSizes, lteSizes, coupleSizes, turbo, carriers, spatials, quadratics, coupleds, profiles, entryBy, admittedBy}
 use Rattle.profiles.specs.Profiles.{groupBy, bitsOf, bitsIn, sizeIn, sizeBy}
 use Rattle.profiles.specs.Entered.{in-profiles, every-profile}
 use Rattle.profiles.specs.Counted.{turbo-range}
@@ -48,6 +48,10 @@ quadratics-pass : every eachPasses quadratics ≡ true
 unfolding eachPasses profileListed bitsListed sizeListed entryBy lteSizes
 quadratics-pass = refl
 
+coupleds-pass : every eachPasses coupleds ≡ true
+unfolding eachPasses profileListed bitsListed sizeListed entryBy coupleSizes
+coupleds-pass = refl
+
 turbo-passes : EachPasses turbo
 unfolding profileListed bitsListed sizeListed entryBy
 turbo-passes z m =
@@ -60,7 +64,7 @@ unfolding eachPasses
 each-passes q e z m = at-each passes (sizesOf q) e m
 
 pub all-pass : All EachPasses profiles
-all-pass = every-profile EachPasses eachPasses each-passes carriers-pass turbo-passes spatials-pass quadratics-pass
+all-pass = every-profile EachPasses eachPasses each-passes carriers-pass turbo-passes spatials-pass quadratics-pass coupleds-pass
 
 -- how many sizes the turbo profile has, which is too many to compute
 pub length-turbo : length (sizesOf turbo) ≡ 5075

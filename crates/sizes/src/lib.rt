@@ -63,5 +63,6 @@ pub fn size_listed(size: Size) -> bool
         Form::Grouped => multiple_of(a.unit * group_by(b), a.limit, n),
         Form::Range => (a.unit <= n) & (n <= a.limit),
         Form::Tiered => (a.unit <= n) & ((n <= a.limit) & (n % step_by(n) == 0)),
+        Form::Fours => (a.unit <= n) & ((n <= a.limit) & (n % 4 == 0)),
     }
 }

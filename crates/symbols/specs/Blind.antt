@@ -7,7 +7,7 @@ use lib.ListN.{length, take, drop, length-map}
 use Rattle.laws.specs.declared.Way.{Way}
 use Rattle.laws.specs.Outcome.{after, after-map}
 use Rattle.sets.specs.declared.Set.{Set}
-use Rattle.families.specs.Rules.{L}
+use Rattle.families.specs.Symbols.{symbolsOf, blockL}
 use Rattle.tables.specs.Answer.{blockLines}
 use Rattle.movers.specs.Moves.{movedBy, moved-blind}
 use Rattle.symbol_movers.specs.Groups.{groups, joined}
@@ -39,11 +39,11 @@ module _ {A B : Type 0} (h : A → B) where
   pub blind : (way : Way) (s : Set) (w : ℕ) (src dst : List A) → movedSymbols way s w (map h src) (map h dst) ≡ map h (movedSymbols way s w src dst)
   unfolding movedSymbols
   blind way s w src dst =
-      let gs = groups w (s .n) src in
-      let os = groups w (s .n) dst in
-      ap₂ (λ (i o : ℕ). after (blockLines s (s .n * w) i o) (symbolsBy way (L s) (s .n) w (map h src) (map h dst)) (map h dst)) (length-map src h) (length-map dst h)
-      ∙ ap (λ (l : List B). after (blockLines s (s .n * w) (length src) (length dst)) l (map h dst))
-      (ap₂ (λ (x y : List (List B)). joined (movedBy way (L s) (s .n) [] x y)) (map-groups w (s .n) src) (map-groups w (s .n) dst)
-      ∙ ap joined (moved-blind (map h) way (L s) (s .n) [] gs os)
-      ∙ map-joined (movedBy way (L s) (s .n) [] gs os))
-      ∙ after-map (map h) (blockLines s (s .n * w) (length src) (length dst)) (symbolsBy way (L s) (s .n) w src dst) dst
+      let gs = groups w (symbolsOf s) src in
+      let os = groups w (symbolsOf s) dst in
+      ap₂ (λ (i o : ℕ). after (blockLines s (symbolsOf s * w) i o) (symbolsBy way (blockL s) (symbolsOf s) w (map h src) (map h dst)) (map h dst)) (length-map src h) (length-map dst h)
+      ∙ ap (λ (l : List B). after (blockLines s (symbolsOf s * w) (length src) (length dst)) l (map h dst))
+      (ap₂ (λ (x y : List (List B)). joined (movedBy way (blockL s) (symbolsOf s) [] x y)) (map-groups w (symbolsOf s) src) (map-groups w (symbolsOf s) dst)
+      ∙ ap joined (moved-blind (map h) way (blockL s) (symbolsOf s) [] gs os)
+      ∙ map-joined (movedBy way (blockL s) (symbolsOf s) [] gs os))
+      ∙ after-map (map h) (blockLines s (symbolsOf s * w) (length src) (length dst)) (symbolsBy way (blockL s) (symbolsOf s) w src dst) dst

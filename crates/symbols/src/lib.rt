@@ -9,44 +9,27 @@ ghost use mathlib.Core.Path.{_≡_};
 ghost use Prim.Native.Nat.{_*_, _≤_};
 ghost use lib.ListN.{length};
 ghost use Rattle.laws.specs.declared.Way.the-variants.{Interleaver, Deinterleaver};
+ghost use Rattle.families.specs.Symbols.{symbolsOf};
 ghost use Rattle.tables.specs.Answer.{movedOf, sayMoved};
 ghost use Rattle.tables.specs.Passed.{Judged};
 ghost use Rattle.symbols.specs.Answer.{movedSymbols};
 
-// How many bytes a block of symbols has.
-fn bytes_of(set: Set, width: u32) -> usize
-    ensures { λ r. ⌜ r ≡ set .n * width ⌝ }
-{
-    set.n as usize * width as usize
-}
-
 // Moves a judged block by a lent table.
 fn move_by(way: Way, set: Set, width: u32, table: &mut [u16], src: &[u8], dst: &mut [u8])
-    requires { ⌜ Judged set (set .n * width) (length (now src)) (length (now dst)) × (set .n ≤ length (now table)) ⌝ }
+    requires { ⌜ Judged set (symbolsOf set * width) (length (now src)) (length (now dst)) × (symbolsOf set ≤ length (now table)) ⌝ }
     ensures { λ _. ⌜ now (dst .exit) ≡ movedSymbols way set width (now (src .entry)) (now (dst .entry)) ⌝ }
 {
+    let n = tables::size_of(set);
     tables::fill(set, table);
     match way {
-        Way::Interleaver => symbol_movers::gather_by(
-            table,
-            set.n as usize,
-            width as usize,
-            src,
-            dst,
-        ),
-        Way::Deinterleaver => symbol_movers::scatter_by(
-            table,
-            set.n as usize,
-            width as usize,
-            src,
-            dst,
-        ),
+        Way::Interleaver => symbol_movers::gather_by(table, n, width as usize, src, dst),
+        Way::Deinterleaver => symbol_movers::scatter_by(table, n, width as usize, src, dst),
     }
 }
 
-// Moves a judged block by the smallest table that holds N.
+// Moves a judged block by the smallest table that holds its symbols.
 fn move_judged(way: Way, set: Set, width: u32, src: &[u8], dst: &mut [u8])
-    requires { ⌜ Judged set (set .n * width) (length (now src)) (length (now dst)) ⌝ }
+    requires { ⌜ Judged set (symbolsOf set * width) (length (now src)) (length (now dst)) ⌝ }
     ensures { λ _. ⌜ now (dst .exit) ≡ movedSymbols way set width (now (src .entry)) (now (dst .entry)) ⌝ }
 {
     let n = tables::size_of(set);
@@ -62,12 +45,12 @@ fn move_judged(way: Way, set: Set, width: u32, src: &[u8], dst: &mut [u8])
     move_by(way, set, width, &mut table, src, dst)
 }
 
-// Moves a block of N symbols of `width` bytes, either way. Refusals 1, 2, 3, 16, 11, 10, 5, 6, before anything is walked.
+// Moves a block of symbols of `width` bytes, either way: N of them, or of couples two for each. Refusals 1, 2, 3, 16, 11, 10, 5, 6, before anything is walked.
 pub fn move_symbols(way: Way, set: Set, width: u32, src: &[u8], dst: &mut [u8]) -> Moved
-    ensures answer { λ r. ⌜ sayMoved r ≡ movedOf set (set .n * width) (length (now (src .entry))) (length (now (dst .entry))) ⌝ }
+    ensures answer { λ r. ⌜ sayMoved r ≡ movedOf set (symbolsOf set * width) (length (now (src .entry))) (length (now (dst .entry))) ⌝ }
     ensures output { λ r. ⌜ now (dst .exit) ≡ movedSymbols way set width (now (src .entry)) (now (dst .entry)) ⌝ }
 {
-    match tables::judge(set, bytes_of(set, width), src.len(), dst.len()) {
+    match tables::judge(set, width, src.len(), dst.len()) {
         Moved::Refused(x) => Moved::Refused(x),
         Moved::Done => {
             move_judged(way, set, width, src, dst);
@@ -76,17 +59,17 @@ pub fn move_symbols(way: Way, set: Set, width: u32, src: &[u8], dst: &mut [u8]) 
     }
 }
 
-// Interleaves N symbols of `width` bytes: symbol t of dst is symbol L(t) of src.
+// Interleaves a block of symbols of `width` bytes: symbol t of dst is symbol L(t) of src, of couples by their symbols.
 pub fn interleave(set: Set, width: u32, src: &[u8], dst: &mut [u8]) -> Moved
-    ensures answer { λ r. ⌜ sayMoved r ≡ movedOf set (set .n * width) (length (now (src .entry))) (length (now (dst .entry))) ⌝ }
+    ensures answer { λ r. ⌜ sayMoved r ≡ movedOf set (symbolsOf set * width) (length (now (src .entry))) (length (now (dst .entry))) ⌝ }
     ensures output { λ r. ⌜ now (dst .exit) ≡ movedSymbols Interleaver set width (now (src .entry)) (now (dst .entry)) ⌝ }
 {
     move_symbols(Way::Interleaver, set, width, src, dst)
 }
 
-// Deinterleaves N symbols of `width` bytes: symbol L(t) of dst is symbol t of src.
+// Deinterleaves a block of symbols of `width` bytes: symbol L(t) of dst is symbol t of src, of couples by their symbols.
 pub fn deinterleave(set: Set, width: u32, src: &[u8], dst: &mut [u8]) -> Moved
-    ensures answer { λ r. ⌜ sayMoved r ≡ movedOf set (set .n * width) (length (now (src .entry))) (length (now (dst .entry))) ⌝ }
+    ensures answer { λ r. ⌜ sayMoved r ≡ movedOf set (symbolsOf set * width) (length (now (src .entry))) (length (now (dst .entry))) ⌝ }
     ensures output { λ r. ⌜ now (dst .exit) ≡ movedSymbols Deinterleaver set width (now (src .entry)) (now (dst .entry)) ⌝ }
 {
     move_symbols(Way::Deinterleaver, set, width, src, dst)

@@ -1,5 +1,6 @@
--- A call that moves a block of so many symbols or bytes: its lines in the order of document 01, with 16 of request 4 and 11 and 10 of request 6 after 3,
--- and without 8, by request 7: 1, 2, 3, 16, 11, 10, 5, 6; and what it has to say. The length of a block is a number of its own: N symbols, or N times a width.
+-- A call that moves a block of so many symbols or bytes: its lines in the order of document 01, with 16 of request 4 and 11 and 10 of requests 6 and 12 after
+-- 3, and without 8, by request 7: 1, 2, 3, 16, 11, 10, 5, 6; and what it has to say. The length of a block is a number of its own: its symbols, or these times a
+-- width.
 use Prim.Native.Nat.{ℕ}
 use mathlib.Core.Bool.{not}
 use mathlib.Core.List.{List, [], _∷_, _++_, map}

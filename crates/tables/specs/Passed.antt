@@ -1,7 +1,8 @@
 -- What stands behind each return of judging a block, behind a block that was judged, and behind a table that was filled. Over a block of any length.
-use Prim.Native.Nat.{ℕ, _≤_, _<_}
+use Prim.Native.Nat.{ℕ, _+_, _*_, _/_, _%_, _≤_, _<_}
 use mathlib.Core.List.{List}
-use mathlib.Core.Path.{_≡_, refl, sym, ap}
+use mathlib.Core.Bool.{Bool, true, false, cond}
+use mathlib.Core.Path.{_≡_, refl, sym, ap, _∙_}
 use native.Mathlib.Omega.{arith}
 use lib.Dec.{eqb}
 use lib.ListN.{length}
@@ -11,19 +12,25 @@ use Rattle.laws.specs.declared.Leaf.{Leaf}
 use Rattle.laws.specs.Outcome.{done, refused, clear, first, after, clear-back, first-clear, answer-keeps, answer-clear}
 use Rattle.laws.specs.Loop.{by, Within}
 use Rattle.laws.specs.Perm.{Perm}
+use Rattle.laws.specs.Digits.{high-below}
 use Rattle.laws.specs.Leaves.{holds-l}
+use Rattle.laws.specs.Walk.{Rule}
 use Rattle.sets.specs.declared.Set.{Set}
 use Rattle.sets.specs.declared.Refusal.{Refusal}
+use Rattle.sets.specs.Set.{familyOf, isCoupled}
 use Rattle.sets.specs.Verdict.{setLines, refusal, verdictOf}
 use Rattle.sets.specs.Admits.{Accepted, accepted-front, set-refused, front-accepted}
-use Rattle.families.specs.Rules.{L, M, lawful}
+use Rattle.families.specs.Rules.{L, lawful}
+use Rattle.families.specs.Symbols.{symbolsOf, blockL, blockM, symbols-two, block-coupled, symbols-plain, block-plain, block-once, symbols-most}
 use Rattle.families.specs.Taken.{WalkLeaf, leaf-had}
+use Rattle.couples.specs.Symbols.{swapped, symbolL}
+use Rattle.couples_walk.specs.Spread.{Coupled, Spread}
 use Rattle.tables.specs.Answer.{lengthLines, blockLines, movedOf}
 
--- N, which is at most 6,144
+-- how many symbols a block has, at most 6,144
 pub record SizeOf (s : Set) (r : ℕ) : Type 0 where
-  pub size : r ≡ s .n
-  pub most : s .n ≤ 6144
+  pub size : r ≡ symbolsOf s
+  pub most : symbolsOf s ≤ 6144
 
 -- a block that was judged, and nothing is in its way: its set is accepted, and the lengths are the block's
 pub record Judged (s : Set) (total i o : ℕ) : Type 0 where
@@ -31,11 +38,11 @@ pub record Judged (s : Set) (total i o : ℕ) : Type 0 where
   pub input : i ≡ total
   pub output : o ≡ total
 
--- a table holds L, and has room for it
+-- a table holds the input symbol of each output symbol, and has room for them
 pub record Tabled (s : Set) (table : List ℕ) : Type 0 where
-  pub room : s .n ≤ length table
-  pub holds : (k : ℕ) → k < s .n → by table k ≡ L s k
-  pub within : Within table (s .n) (s .n)
+  pub room : symbolsOf s ≤ length table
+  pub holds : (t : ℕ) → t < symbolsOf s → by table t ≡ blockL s t
+  pub within : Within table (symbolsOf s) (symbolsOf s)
 
 -- judging, return by return. The set is refused: so is the block
 pub block-refused : (s : Set) (total i o : ℕ) {x : Refusal} → verdictOf s ≡ refused x → refused x ≡ movedOf s total i o
@@ -48,11 +55,13 @@ module _ (s : Set) (total i o : ℕ) (a : Accepted s) where
   unfolding blockLines
   front = accepted-front s (lengthLines total i o) a
 
-  pub is-five : {x : Refusal} → (i ≡ total → ⊥) → x ≡ refusal s 5 → refused x ≡ movedOf s total i o
-  is-five n q = rw (front, ne-eqb i total n) (ap refused q)
+  -- as a length that was worked out has them
+  module _ {t : ℕ} (w : t ≡ total) where
+    pub is-five : {x : Refusal} → (i ≡ t → ⊥) → x ≡ refusal s 5 → refused x ≡ movedOf s total i o
+    is-five n q = rw (front, ne-eqb i total (λ e. n (e ∙ sym w))) (ap refused q)
 
-  pub is-six : {x : Refusal} → i ≡ total → (o ≡ total → ⊥) → x ≡ refusal s 6 → refused x ≡ movedOf s total i o
-  is-six e n q = rw (front, eq-eqb i total e, ne-eqb o total n) (ap refused q)
+    pub is-six : {x : Refusal} → i ≡ t → (o ≡ t → ⊥) → x ≡ refusal s 6 → refused x ≡ movedOf s total i o
+    is-six e n q = rw (front, eq-eqb i total (e ∙ w), ne-eqb o total (λ e. n (e ∙ sym w))) (ap refused q)
 
 -- a block of the lengths that it must have, of an accepted set, is moved
 pub block-served : (s : Set) (total : ℕ) {i o : ℕ} → Accepted s → i ≡ total → o ≡ total → movedOf s total i o ≡ done tt
@@ -73,8 +82,8 @@ module _ (s : Set) (total i o : ℕ) (e : movedOf s total i o ≡ done tt) where
         output = eqb-true o total (not-false (eqb o total) (c .1 .0));
       }
 
-  pub its-perm : Perm (s .n) (L s) (M s)
-  its-perm = lawful s (judged-so .accepted) .perm
+  pub its-perm : Perm (symbolsOf s) (blockL s) (blockM s)
+  its-perm = block-once s (judged-so .accepted)
 
   pub its-lengths : (i ≡ total) × (o ≡ total)
   its-lengths = (judged-so .input, judged-so .output)
@@ -92,10 +101,47 @@ pub kept-output : {B : Type 0} (s : Set) (total i o : ℕ) {x : Refusal} → ref
     → old ≡ after (blockLines s total i o) new old
 kept-output s total i o e new old = sym (answer-keeps (refusal s) tt (blockLines s total i o) (sym e) new old)
 
--- the table that the walk from the first cell filled
-pub tabled-by : (s : Set) (old : List ℕ) {table : List ℕ} {leaf : Leaf} → Accepted s → s .n ≤ length old → WalkLeaf Interleaver s 0 old table leaf
-    → length table ≡ length old → Tabled s table
-tabled-by s old {table} a room w same = record { room = omega arith; holds = holds; within = λ k l. rw (holds k l) (lawful s a .perm .l-below k l) }
-  where
-    holds : (k : ℕ) → k < s .n → by table k ≡ L s k
-    holds k l = holds-l (lawful s a) (leaf-had Interleaver s refl w) k (omega arith) l
+-- the table that the walk from the first cell filled, where there is room for the symbols
+module _ (s : Set) (a : Accepted s) where
+  size-within : s .n ≤ symbolsOf s
+  unfolding symbolsOf
+  size-within = go (isCoupled (familyOf s))
+    where
+      go : (c : Bool) → s .n ≤ cond c (2 * s .n) (s .n)
+      go true = omega arith
+      go false = omega arith
+
+  tabled : {table : List ℕ} → symbolsOf s ≤ length table → ((t : ℕ) → t < symbolsOf s → by table t ≡ blockL s t) → Tabled s table
+  tabled r h = record { room = r; holds = h; within = λ t l. rw (h t l) (block-once s a .l-below t l) }
+
+  module _ (old : List ℕ) {table : List ℕ} {leaf : Leaf} (room : symbolsOf s ≤ length old) (w : WalkLeaf Interleaver s 0 old table leaf)
+      (same : length table ≡ length old) where
+    walked : (k : ℕ) → k < s .n → by table k ≡ L s k
+    walked k l = holds-l (lawful s a) (leaf-had Interleaver s refl w) k (omega (arith, size-within)) l
+
+    -- it is the table, but for couples ..
+    pub tabled-plain : isCoupled (familyOf s) ≡ false → Tabled s table
+    tabled-plain c =
+        tabled (omega arith) (λ t l. walked t (omega (arith, symbols-plain s c)) ∙ ap (λ (r : Rule). r .l t) (sym (block-plain s c)))
+
+    -- .. which are spread to their symbols
+    module _ (c : isCoupled (familyOf s) ≡ true) where
+      pub couples-tabled : Coupled (s .n) table
+      couples-tabled =
+          let q = symbols-two s c in
+          record {
+            room = omega (arith, room, same, q);
+            small = omega (arith, symbols-most s a, q);
+            below = λ k l. rw (walked k l) (lawful s a .perm .l-below k l);
+          }
+
+      pub tabled-spread : {new : List ℕ} → Spread (s .n) table new → Tabled s new
+      unfolding symbolL
+      tabled-spread p =
+          let q = symbols-two s c in
+          tabled (omega (arith, room, same, p .long))
+          (λ t l.
+          let h : t < 2 * s .n = omega arith in
+          p .symbols t h
+          ∙ ap (λ (x : ℕ). swapped (2 * x + t % 2)) (walked (t / 2) (high-below 2 (s .n) t (omega arith) h))
+          ∙ ap (λ (r : Rule). r .l t) (sym (block-coupled s c)))

@@ -1,4 +1,4 @@
--- The refusals of a call on a block of so many, in the sentences of document 01, of request 4 for 16 and of request 6 for 11 and 10, in their order, and
+-- The refusals of a call on a block of so many, in the sentences of document 01, of request 4 for 16 and of requests 6 and 12 for 11 and 10, in their order, and
 -- without 8, by request 7: 1, 2, 3, 16, 11, 10, 5, 6. A number is said exactly when its sentence is the first that holds, and then every buffer is what it was.
 use Prim.Native.Nat.{ℕ}
 use mathlib.Core.List.{List, [], _∷_, _++_}

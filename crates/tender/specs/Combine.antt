@@ -29,9 +29,11 @@ use Rattle.combine.specs.Total.{total, presentIn}
 use Rattle.combine.specs.Calls.{Calls, wentTo, sumBy, counted}
 use Rattle.combine.specs.Eighths.{Worth}
 use Rattle.combine.specs.Exact.{Eighths, sum-exact}
-use Rattle.tender.specs.Condition2.{Listed, admits, L, target-back}
+use Rattle.families.specs.Symbols.{symbolsOf, blockM}
+use Rattle.tender.specs.Condition2.{Listed, admits, L, M, symbols-are, target-back}
 
--- a number is said exactly when its sentence is the first that holds: 1, 2, 3, 16, 11, 10, 5, 6, 14, 13, 15 for a block, 1, 2, 3, 16, 11, 10, 4, 6 for a position
+-- a number is said exactly when its sentence is the first that holds: 1, also of profile 9, 2, 3, 16, 11, 10, 5, 6, 14, 13, 15 for a block,
+-- 1, also of profile 9, 2, 3, 16, 11, 10, 4, 6 for a position
 pub refusal-order-add : (s : Set) (b : Reception) (h : Kept) (k : ℕ) → (addedOf s b h ≡ refused (refusal s k)) ↔ FirstTrue (addSentences s b h) k
 refusal-order-add s b h k = refusals.refusal-order-add s b h k
 
@@ -45,14 +47,14 @@ refused-alone-add s b h k f =
     let e = refusals.stored-kept s b h k f in
     (refusals.refusal-order-add s b h k .1 f, ap (λ (x : Kept). x .sums) e, ap (λ (x : Kept). x .counts) e)
 
--- a listed set is served, if no sentence on what is lent holds; a position of it below N is read, with the buffers N long
-pub served-add : (s : Set) (b : Reception) (h : Kept) → Listed s → NoneTrue (lentSentences s b h) → addedOf s b h ≡ done tt
-served-add s b h l n = refusals.add-served s b h (admits s .0 l) n
+-- a listed set, but of profile 9, is served, if no sentence on what is lent holds; a position of it below N is read, with the buffers N long
+pub served-add : (s : Set) (b : Reception) (h : Kept) → Listed s → s .profile ≢ 9 → NoneTrue (lentSentences s b h) → addedOf s b h ≡ done tt
+served-add s b h l p n = refusals.add-served s b h (admits s .0 l) p n
 
-pub served-read : (s : Set) (h : Kept) (k : ℕ) → Listed s → length (h .sums) ≡ s .n → length (h .counts) ≡ s .n → k < s .n
+pub served-read : (s : Set) (h : Kept) (k : ℕ) → Listed s → s .profile ≢ 9 → length (h .sums) ≡ s .n → length (h .counts) ≡ s .n → k < s .n
     → ((held h k .count ≡ 0 → readOf s h k ≡ done blank) × (held h k .count ≢ 0 → readOf s h k ≡ done (soft (held h k))))
-served-read s h k l i o b =
-    let r = refusals.read-served s h k (admits s .0 l) i o b in
+served-read s h k l p i o b =
+    let r = refusals.read-served s h k (admits s .0 l) p i o b in
     (λ c. r ∙ rw (eq-eqb (held h k .count) 0 c), λ c. r ∙ rw (ne-eqb (held h k .count) 0 c))
 
 -- what an accepted block does. "Values go to their input index": value t to position L(t)
@@ -99,7 +101,7 @@ module _ (s : Set) (k : ℕ) (l : k < s .n) {before behind : Kept} {blocks : Lis
 module _ (s : Set) (b : Reception) (h : Kept) (listed : Listed s) (e : addedOf s b h ≡ done tt) (t : ℕ) (l : t < s .n) where
   reads : readOf s (keptAfter s b h) (L s t) ≡ done (toldOf (held (keptAfter s b h) (L s t)))
   reads =
-      refusals.read-served s (keptAfter s b h) (L s t) (admits s .0 listed) (laws.sums-long s b h e) (laws.counts-long s b h e) (laws.its-perm s b h e .l-below t l)
+      refusals.read-served s (keptAfter s b h) (L s t) (admits s .0 listed) (laws.not-nine s b h e) (laws.sums-long s b h e) (laws.counts-long s b h e) (laws.its-perm s b h e .l-below t l)
 
   pub zero-counts : (sign : Bool) → getD (b .received) t nan ≡ fin sign 0 (pos 0) → getD (b .present) t 0 ≡ 1
       → (held (keptAfter s b h) (L s t) .count ≡ held h (L s t) .count + 1)
@@ -140,5 +142,11 @@ pub as-deinterleaved : (s : Set) (b : Reception) (h : Kept) (dst : List Float) (
     → held (keptAfter s b h) k ≡ heard (getD (moved Deinterleaver s 0 (b .present) bytes) k 0) (getD (moved Deinterleaver s nan (b .received) dst) k nan) (held h k)
 as-deinterleaved s b h dst bytes listed e d p k l =
     let n = laws.its-lengths s b h e in
+    let a = symbols-are s (laws.not-nine s b h e) in
+    let z = sym (a .0) in
+    let h′ : k < symbolsOf s = rw (a .0) l in
+    let m : blockM s k ≡ M s k = ap (λ (f : ℕ → ℕ). f k) (a .2) in
     laws.hears s b h e k l
-    ∙ ap₂ (λ (x : ℕ) (v : Float). heard x v (held h k)) (sym (target-back s listed 0 (b .present) bytes (n .present) p k l)) (sym (target-back s listed nan (b .received) dst (n .received) d k l))
+    ∙ ap₂ (λ (x : ℕ) (v : Float). heard x v (held h k))
+    (sym (target-back s listed 0 (b .present) bytes (n .present ∙ z) (p ∙ z) k h′ ∙ ap (λ (x : ℕ). getD (b .present) x 0) m))
+    (sym (target-back s listed nan (b .received) dst (n .received ∙ z) (d ∙ z) k h′ ∙ ap (λ (x : ℕ). getD (b .received) x nan) m))

@@ -15,12 +15,13 @@ use Rattle.laws.specs.Told.{NoneTrue}
 use Rattle.laws.specs.Walk.{Rule}
 use Rattle.sets.specs.declared.Set.{Set}
 use Rattle.sets.specs.Set.{rowsOf, rotationOf, groupOf}
-use Rattle.profiles.specs.Profiles.{ofdm, ofdma, wlan, bench, turbo, ht20, ht40, lte, lteSizes}
+use Rattle.profiles.specs.Profiles.{ofdm, ofdma, wlan, bench, turbo, ht20, ht40, lte, lteSizes, wimax, coupleSizes}
 use Rattle.sizes.specs.Listed.{length-turbo}
 use Rattle.sets.specs.Listed.{entryOf, setsOf, listedSets, sets-of}
 use Rattle.sets.specs.Beside.{besideSentences}
 use Rattle.sets.specs.Verdict.{verdictOf}
 use Rattle.sets.specs.Listed as admitted
+use Rattle.sets.specs.Beside.{plain-other}
 use Rattle.sets.specs.Numbered.{carrier-profile, five-turbo, spatial-profile, ht20-numbers, ht40-numbers}
 use Rattle.carrier.specs.Formula.{carrierL, carrierM}
 use Rattle.carrier.specs.Once.{carrier-once}
@@ -29,6 +30,7 @@ use Rattle.wcdma.specs.Turbo.{turboL, turboM}
 use Rattle.walks.specs.declared.Walk.{Walk}
 use Rattle.families.specs.Rules.{ruleIn, rule-is, spatial-is}
 use Rattle.families.specs.Rules as rules
+use Rattle.families.specs.Symbols.{symbolsOf, blockL, blockM, symbols-plain, block-plain, block-once}
 use Rattle.walks.specs.Lists as lists
 use Rattle.walks.specs.Answer.{walkedOf, walkValues, foundOf}
 use Rattle.walks.specs.Served.{walk-served, address-served, walkable-listed}
@@ -37,9 +39,10 @@ use Rattle.tables.specs.Passed.{block-served}
 use Rattle.blocks.specs.Answer.{moved}
 use Rattle.blocks.specs.Laws as moves
 
--- a set is listed: its size, which is its profile, bits and N, with its stream, stands in the table, document 01's and that of requests 4 and 6, counted
+-- a set is listed: its size, which is its profile, bits and N, with its stream, stands in the table, document 01's and that of requests 4, 6 and 12, counted
 -- out set by set, and no sentence of what a set must have beside that holds. (Crate sets, specs/Listed.antt and specs/Beside.antt: of profile 8 that either
--- of f1 and f2 is 0 or not below K, and that two positions share an address; of the others none. Lte.antt says it of profile 8 in one piece)
+-- of f1 and f2 is 0 or not below K, and that two positions share an address; of profile 9 that one of P0 to P3 isn't below N, and that two outputs share a couple;
+-- of the others none. Lte.antt and Wimax.antt say it of the two in one piece)
 abbrev pub Listed : Set → Type 0
 Listed s = List·Memᴰ (entryOf s) listedSets × NoneTrue (besideSentences s)
 
@@ -47,16 +50,18 @@ Listed s = List·Memᴰ (entryOf s) listedSets × NoneTrue (besideSentences s)
 pub admits : (s : Set) → Listed s ↔ (verdictOf s ≡ done tt)
 admits s = admitted.admits s
 
--- .. has 20, 11, 4, 272 and 5,075 sets for profiles 1 to 5, 16 each for 6 and 7, which is four streams for each of eight sizes, 32 entries, and 188 for 8,
--- its sizes
+-- .. has 20, 11, 4, 272 and 5,075 sets for profiles 1 to 5, 16 each for 6 and 7, which is four streams for each of eight sizes, 32 entries, and 188 for 8 and 595
+-- for 9, their sizes
 pub listed-counts : (length (setsOf ofdm) ≡ 20) × (length (setsOf ofdma) ≡ 11) × (length (setsOf wlan) ≡ 4) × (length (setsOf bench) ≡ 272)
     × (length (setsOf turbo) ≡ 5075) × (length (setsOf ht20) ≡ 16) × (length (setsOf ht40) ≡ 16) × (length (setsOf lte) ≡ 188)
-unfolding lteSizes
-listed-counts = (refl, refl, refl, refl, sets-of turbo length-turbo refl, refl, refl, refl)
+    × (length (setsOf wimax) ≡ 595)
+unfolding lteSizes coupleSizes
+listed-counts = (refl, refl, refl, refl, sets-of turbo length-turbo refl, refl, refl, refl, refl)
 
--- and accepted means served: of a listed set a walk is done from every cell up to the total, with any room (for M, profiles 5
--- and 8 apart) ..
-pub served-walk : (way : Way) (w : Walk) (room : ℕ) → Listed (w .set) → (way ≡ Deinterleaver → (w .set .profile ≡ 5) ⊎ (w .set .profile ≡ 8) → ⊥) → w .cell ≤ ruleIn way (w .set) .total
+-- and accepted means served: of a listed set a walk is done from every cell up to the total, with any room (for M, profiles 5,
+-- 8 and 9 apart) ..
+pub served-walk : (way : Way) (w : Walk) (room : ℕ) → Listed (w .set) → (way ≡ Deinterleaver → (w .set .profile ≡ 5) ⊎ ((w .set .profile ≡ 8) ⊎ (w .set .profile ≡ 9)) → ⊥)
+    → w .cell ≤ ruleIn way (w .set) .total
     → walkedOf way w room ≡ done (walkValues way w room)
 served-walk way w room l n h = walk-served way w room (walkable-listed way (w .set) (admits (w .set) .0 l) n) h
 
@@ -64,9 +69,9 @@ served-walk way w room l n h = walk-served way w room (walkable-listed way (w .s
 pub served-address : (way : Way) (s : Set) (x : ℕ) → Listed s → x < s .n → foundOf way s x ≡ done (ruleIn way s .l x)
 served-address way s x l h = address-served way s x (admits s .0 l) h
 
--- .. and a block of N into N is moved
-pub served-block : (s : Set) {i o : ℕ} → Listed s → i ≡ s .n → o ≡ s .n → movedOf s (s .n) i o ≡ done tt
-served-block s l i o = block-served s (s .n) (admits s .0 l) i o
+-- .. and a block of as many symbols as it must have, into as many, is moved (symbolsOf: N, or of profile 9 2N, below)
+pub served-block : (s : Set) {i o : ℕ} → Listed s → i ≡ symbolsOf s → o ≡ symbolsOf s → movedOf s (symbolsOf s) i o ≡ done tt
+served-block s l i o = block-served s (symbolsOf s) (admits s .0 l) i o
 
 -- L: output t holds input L(t). M: input k goes to output M(k) (crate families, specs/Rules.antt, by family)
 abbrev pub L : Set → ℕ → ℕ
@@ -94,7 +99,7 @@ formulas-ht20 s e =
     let q = spatial-is s 13 11 (spatial-profile s (inl e)) (ht20-numbers s e) in
     (ap (λ (r : Rule). r .l) q, ap (λ (r : Rule). r .m) q)
 
--- .. and d 18 and r 29 at 40 MHz (profile 8: Lte.antt)
+-- .. and d 18 and r 29 at 40 MHz (profile 8: Lte.antt; profile 9: Wimax.antt)
 pub formulas-ht40 : (s : Set) → s .profile ≡ 7
     → (L s ≡ spatialL 18 (s .n) (groupOf s) (s .bits) 29 (s .stream)) × (M s ≡ spatialM 18 (s .n) (groupOf s) (s .bits) 29 (s .stream))
 formulas-ht40 s e =
@@ -122,21 +127,32 @@ each-once-wlan = (once 48 1 3 (omega arith) refl (omega arith), once 96 1 6 (ome
     once : (n s b : ℕ) → 0 < s → n ≡ 16 * (s * b) → 0 < n → Perm n (carrierL 16 n s) (carrierM 16 n s)
     once n s b hs e hn = carrier-once (record { d-pos = omega arith; s-pos = hs; n-pos = hn; groups = b; whole = e })
 
--- "Each symbol goes where the formula sends it": N symbols of a listed set. Interleaved, output t holds input L(t) ..
-module _ {A : Type 0} (s : Set) (l : Listed s) (z : A) (src dst : List A) (i : length src ≡ s .n) (o : length dst ≡ s .n) where
-  pub source : (t : ℕ) → t < s .n → getD (moved Interleaver s z src dst) t z ≡ getD src (L s t) z
+-- the symbols of a block (crate families, specs/Symbols.antt): how many there are, symbolsOf; which input symbol output symbol t holds, blockL; and where input
+-- symbol k goes, blockM. They are N, L and M of every profile but 9, whose couples have two symbols each (Wimax.antt)
+pub symbols-are : (s : Set) → (s .profile ≡ 9 → ⊥) → (symbolsOf s ≡ s .n) × (blockL s ≡ L s) × (blockM s ≡ M s)
+symbols-are s n =
+    let c = plain-other s n in
+    (symbols-plain s c, ap (λ (r : Rule). r .l) (block-plain s c), ap (λ (r : Rule). r .m) (block-plain s c))
+
+-- each is used once
+pub symbols-once : (s : Set) → Listed s → Perm (symbolsOf s) (blockL s) (blockM s)
+symbols-once s l = block-once s (admits s .0 l)
+
+-- "Each symbol goes where the formula sends it": a block of symbols of a listed set. Interleaved, output t holds input L(t), L being that of the symbols ..
+module _ {A : Type 0} (s : Set) (l : Listed s) (z : A) (src dst : List A) (i : length src ≡ symbolsOf s) (o : length dst ≡ symbolsOf s) where
+  pub source : (t : ℕ) → t < symbolsOf s → getD (moved Interleaver s z src dst) t z ≡ getD src (blockL s t) z
   source t h = moves.source-of Interleaver s z src dst (served-block s l i o) t h
 
   -- .. and input k is at output M(k)
-  pub target : (k : ℕ) → k < s .n → getD (moved Interleaver s z src dst) (M s k) z ≡ getD src k z
+  pub target : (k : ℕ) → k < symbolsOf s → getD (moved Interleaver s z src dst) (blockM s k) z ≡ getD src k z
   target k h = moves.target-of Interleaver s z src dst (served-block s l i o) k h
 
   -- deinterleaved, input t is at output L(t) ..
-  pub source-back : (t : ℕ) → t < s .n → getD (moved Deinterleaver s z src dst) (L s t) z ≡ getD src t z
+  pub source-back : (t : ℕ) → t < symbolsOf s → getD (moved Deinterleaver s z src dst) (blockL s t) z ≡ getD src t z
   source-back t h = moves.target-of Deinterleaver s z src dst (served-block s l i o) t h
 
   -- .. and output k holds input M(k)
-  pub target-back : (k : ℕ) → k < s .n → getD (moved Deinterleaver s z src dst) k z ≡ getD src (M s k) z
+  pub target-back : (k : ℕ) → k < symbolsOf s → getD (moved Deinterleaver s z src dst) k z ≡ getD src (blockM s k) z
   target-back k h = moves.source-of Deinterleaver s z src dst (served-block s l i o) k h
 
   -- either way the output is as long as the input
@@ -144,7 +160,7 @@ module _ {A : Type 0} (s : Set) (l : Listed s) (z : A) (src dst : List A) (i : l
   as-long way = moves.as-long way s z src dst (served-block s l i o)
 
 -- "and comes back": there and back, and back and there, whatever stood in the outputs before
-module _ {A : Type 0} (s : Set) (l : Listed s) (z : A) (src mid out : List A) (i : length src ≡ s .n) (m : length mid ≡ s .n) (o : length out ≡ s .n) where
+module _ {A : Type 0} (s : Set) (l : Listed s) (z : A) (src mid out : List A) (i : length src ≡ symbolsOf s) (m : length mid ≡ symbolsOf s) (o : length out ≡ symbolsOf s) where
   pub there-and-back : moved Deinterleaver s z (moved Interleaver s z src mid) out ≡ src
   there-and-back = moves.there-and-back Interleaver s z src mid out (served-block s l i m) (served-block s l i o)
 
@@ -160,6 +176,6 @@ stand-in way s y z src dst = moves.stand-in way s y z src dst
 -- stand-in on either side, a block call answers the same, and moves the changed symbols as it would have moved the others
 module _ {A B : Type 0} (h : A → B) (s : Set) (src dst : List A) where
   pub blind : (way : Way) (y : B) (z : A)
-      → (movedOf s (s .n) (length (map h src)) (length (map h dst)) ≡ movedOf s (s .n) (length src) (length dst))
+      → (movedOf s (symbolsOf s) (length (map h src)) (length (map h dst)) ≡ movedOf s (symbolsOf s) (length src) (length dst))
       × (moved way s y (map h src) (map h dst) ≡ map h (moved way s z src dst))
-  blind way y z = (blind-answer h s src dst (s .n), moves.blind h s src dst way y z)
+  blind way y z = (blind-answer h s src dst (symbolsOf s), moves.blind h s src dst way y z)

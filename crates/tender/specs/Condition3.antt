@@ -16,13 +16,14 @@ use Rattle.laws.specs.Ends.{EndsAt, ends-once}
 use Rattle.laws.specs.Pieces as pieces
 use Rattle.laws.specs.Walk.{Rule}
 use Rattle.sets.specs.declared.Set.{Set}
-use Rattle.sets.specs.Set.{rowsOf, rotationOf, groupOf, f1, f2}
-use Rattle.sets.specs.Numbered.{carrier-profile, five-turbo, spatial-profile, eight-quadratic}
+use Rattle.sets.specs.Set.{rowsOf, rotationOf, groupOf, f1, f2, couplesOf}
+use Rattle.sets.specs.Numbered.{carrier-profile, five-turbo, spatial-profile, eight-quadratic, nine-coupled}
 use Rattle.carrier.specs.Formula.{carrierL, carrierM}
 use Rattle.carrier.specs.Third.{spatialL, spatialM}
 use Rattle.wcdma_shape.specs.Rectangle.{cells}
 use Rattle.wcdma.specs.Turbo.{address}
 use Rattle.quadratic.specs.Formula.{quadraticL}
+use Rattle.couples.specs.Formula.{coupleL}
 use Rattle.walks.specs.declared.Walk.{Walk}
 use Rattle.families.specs.Rules.{ruleIn, rule-is}
 use Rattle.walks.specs.Answer.{Values, walkedOf, walkList, walkCells, walkPadding, walkNext, walkValues}
@@ -68,6 +69,13 @@ pub rule-lte : (s : Set) → s .profile ≡ 8
     → (ruleIn Interleaver s .total ≡ s .n) × (ruleIn Interleaver s .address ≡ quadraticL (s .n) (f1 s) (f2 s))
 rule-lte s p =
     let e = rule-is s (eight-quadratic s p) in
+    (ap (λ (r : Rule). r .total) e, ap (λ (r : Rule). r .address) e)
+
+-- .. profile 9: N cells, and the address of a cell is the couple P(j) = (P0·j + Q) mod N ..
+pub rule-wimax : (s : Set) → s .profile ≡ 9
+    → (ruleIn Interleaver s .total ≡ s .n) × (ruleIn Interleaver s .address ≡ coupleL (couplesOf s))
+rule-wimax s p =
+    let e = rule-is s (nine-coupled s p) in
     (ap (λ (r : Rule). r .total) e, ap (λ (r : Rule). r .address) e)
 
 -- .. M: N cells, the input positions, and the address of a cell is the formula's, profiles 1 to 4 ..

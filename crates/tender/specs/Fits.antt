@@ -12,7 +12,7 @@ use Rattle.laws.specs.Unsaid.{among}
 use Rattle.laws.specs.Least.{least-none}
 use Rattle.sizes.specs.Size.{size}
 use Rattle.sizes.specs.Tests.{listedSizes, profileListed, bitsListed, sizeListed}
-use Rattle.profiles.specs.Profiles.{turboSizes, lteSizes, entryBy}
+use Rattle.profiles.specs.Profiles.{turboSizes, lteSizes, coupleSizes, entryBy}
 use Rattle.fitting.specs.Fitting.{listedFor, fitting}
 use Rattle.sets.specs.declared.Set.{Set}
 use Rattle.sets.specs.declared.Refusal.{Refusal}
@@ -28,7 +28,7 @@ use Rattle.walks.specs.Answer.{walkLines, oneLines, walkValues, walkedOf, found
 use Rattle.families.specs.Rules.{barred, ruleIn}
 use Rattle.tables.specs.Answer.{lengthLines, blockLines, movedOf}
 use Rattle.positions.specs.Heard.{Reception, Kept, held}
-use Rattle.combine.specs.Answer.{lentLines, addLines, addedOf, readLines, readOf, toldOf}
+use Rattle.combine.specs.Answer.{lentLines, coupledLine, addLines, addedOf, readLines, readOf, toldOf}
 use Rattle.tender.specs.Stars.{wlan}
 
 -- N is listed for the profile and the bits of a set
@@ -109,8 +109,8 @@ fits-for-c s = (
       with-size s x (as-tested s (walkValues way w room) x (line 1 (barred way (familyOf s)) ∷ []) (leafLines (ruleIn way s) cell) refl refl e q),
   λ way t x e q. with-size s x (as-tested s (ruleIn way s .l t) x [] _ refl refl e q),
   λ total i o x e q. with-size s x (as-tested s tt x [] (lengthLines total i o) refl refl e q),
-  λ b h x e q. with-size s x (as-tested s tt x [] (lentLines s b h) refl refl e q),
-  λ h k x e q. with-size s x (as-tested s (toldOf (held h k)) x [] _ refl refl e q),
+  λ b h x e q. with-size s x (as-tested s tt x (coupledLine s ∷ []) (lentLines s b h) refl refl e q),
+  λ h k x e q. with-size s x (as-tested s (toldOf (held h k)) x (coupledLine s ∷ []) _ refl refl e q),
 )
 
 -- a call whose one line says that the size of a set isn't listed
@@ -142,5 +142,5 @@ fits-itself s i = (law.fits-itself s i, three-unsaid s i)
 
 -- the request's own: profile 3, bits 4, N 100 names 192; N 193 names 0
 pub fits-stars : (refusal (wlan 4 100) 3 .size ≡ 192) × (refusal (wlan 4 193) 3 .size ≡ 0)
-unfolding refusal fitting listedFor listedSizes turboSizes lteSizes
+unfolding refusal fitting listedFor listedSizes turboSizes lteSizes coupleSizes
 fits-stars = (refl, refl)

@@ -6,6 +6,7 @@ pub mod Symbols
 pub mod Condition3
 pub mod Turbo
 pub mod Lte
+pub mod Wimax
 pub mod Stream
 pub mod Burst
 pub mod Combine

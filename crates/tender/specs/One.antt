@@ -11,7 +11,7 @@ use Rattle.laws.specs.Outcome.{done, after-same}
 use Rattle.laws.specs.Run.{run, run-same}
 use Rattle.laws.specs.Move.{gather}
 use Rattle.sets.specs.declared.Set.{Set}
-use Rattle.families.specs.Rules.{ruleOf, ruleIn}
+use Rattle.families.specs.Symbols.{symbolsOf, blockRule, blockIn}
 use Rattle.tables.specs.Answer.{blockLines, movedOf}
 use Rattle.movers.specs.Moves.{perm-in, moved-is}
 use Rattle.tables.specs.Passed.{its-perm, its-lengths}
@@ -39,18 +39,18 @@ module _ {A : Type 0} where
       ∙ joined-ones (λ t. getD xs (f t) z) 0 n
 
 -- so the call on symbols of one byte is the call on bytes
-pub answer-one : (s : Set) (i o : ℕ) → movedOf s (s .n * 1) i o ≡ movedOf s (s .n) i o
-answer-one s i o = rw (mul-one (s .n))
+pub answer-one : (s : Set) (i o : ℕ) → movedOf s (symbolsOf s * 1) i o ≡ movedOf s (symbolsOf s) i o
+answer-one s i o = rw (mul-one (symbolsOf s))
 
 pub width-one : {A : Type 0} (way : Way) (s : Set) (z : A) (src dst : List A) → movedSymbols way s 1 src dst ≡ moved way s z src dst
 unfolding movedSymbols moved
 width-one way s z src dst =
-    rw (mul-one (s .n))
-    (after-same (blockLines s (s .n) (length src) (length dst)) dst
+    rw (mul-one (symbolsOf s))
+    (after-same (blockLines s (symbolsOf s) (length src) (length dst)) dst
     (λ c.
-    let e : movedOf s (s .n) (length src) (length dst) ≡ done tt = rw c in
-    let p = its-perm s (s .n) (length src) (length dst) e in
-    let l = its-lengths s (s .n) (length src) (length dst) e in
-    ap joined (moved-is way (ruleOf s) p (groups 1 (s .n) src) (groups 1 (s .n) dst) [] (length-groups 1 (s .n) dst))
-    ∙ gather-one (ruleIn way s .l) (s .n) z src (l .0) (perm-in way (ruleOf s) p .l-below)
-    ∙ sym (moved-is way (ruleOf s) p src dst z (l .1))))
+    let e : movedOf s (symbolsOf s) (length src) (length dst) ≡ done tt = rw c in
+    let p = its-perm s (symbolsOf s) (length src) (length dst) e in
+    let l = its-lengths s (symbolsOf s) (length src) (length dst) e in
+    ap joined (moved-is way (blockRule s) p (groups 1 (symbolsOf s) src) (groups 1 (symbolsOf s) dst) [] (length-groups 1 (symbolsOf s) dst))
+    ∙ gather-one (blockIn way s .l) (symbolsOf s) z src (l .0) (perm-in way (blockRule s) p .l-below)
+    ∙ sym (moved-is way (blockRule s) p src dst z (l .1))))

@@ -21,7 +21,7 @@ use Rattle.kinds.specs.Kinds.{startRecord}
 use Rattle.streams.specs.Fed.{fedRecord}
 use Rattle.streams.specs.Answers.{startLines, startedOf, Call, linesOf, says}
 
--- the test of a set; every call on a set makes it first, but for the walk for M's own 1
+-- the test of a set; every call on a set makes it first, but for the own 1 of the walk for M and of receptions
 pub order-test : (s : Set) → numbers (setLines s) ≡ 1 ∷ 2 ∷ 3 ∷ 16 ∷ 11 ∷ 10 ∷ []
 unfolding setLines
 order-test s = refl
@@ -40,12 +40,12 @@ pub order-block : (s : Set) (total i o : ℕ) → numbers (blockLines s total i 
 unfolding blockLines setLines
 order-block s total i o = refl
 
--- a reception that is added, and a position that is read
-pub order-add : (s : Set) (b : Reception) (h : Kept) → numbers (addLines s b h) ≡ 1 ∷ 2 ∷ 3 ∷ 16 ∷ 11 ∷ 10 ∷ 5 ∷ 6 ∷ 14 ∷ 13 ∷ 15 ∷ []
+-- a reception that is added, and a position that is read; the first 1 is that of profile 9
+pub order-add : (s : Set) (b : Reception) (h : Kept) → numbers (addLines s b h) ≡ 1 ∷ 1 ∷ 2 ∷ 3 ∷ 16 ∷ 11 ∷ 10 ∷ 5 ∷ 6 ∷ 14 ∷ 13 ∷ 15 ∷ []
 unfolding addLines setLines
 order-add s b h = refl
 
-pub order-read : (s : Set) (h : Kept) (k : ℕ) → numbers (readLines s h k) ≡ 1 ∷ 2 ∷ 3 ∷ 16 ∷ 11 ∷ 10 ∷ 4 ∷ 6 ∷ []
+pub order-read : (s : Set) (h : Kept) (k : ℕ) → numbers (readLines s h k) ≡ 1 ∷ 1 ∷ 2 ∷ 3 ∷ 16 ∷ 11 ∷ 10 ∷ 4 ∷ 6 ∷ []
 unfolding readLines setLines
 order-read s h k = refl
 

@@ -1,4 +1,4 @@
--- The starred cases of document 01, "Checked by hand", K 40 as change request 1 mends it and K 200 beside it, and the one of request 6, in one proved table,
+-- The starred cases of document 01, "Checked by hand", K 40 as change request 1 mends it and K 200 beside it, and those of requests 6 and 12, in one proved table,
 -- over the definitions that the public contracts cite, and a second table of ours for what these leave out. A row says a question, a set, an
 -- argument and the numbers that are expected. `refl` at its end: the definitions compute to those numbers.
 use Prim.Native.Nat.{ℕ, _-_, _≤_}
@@ -24,6 +24,7 @@ use Rattle.wcdma_shape.specs.Orders.{rowOrders, whichOrder, orderOf, rowAt}
 use Rattle.wcdma.specs.Turbo.{entry, full, column, origin, address, addresses, turboM, padCells}
 use Rattle.wcdma.specs.Pads.{cells-are}
 use Rattle.quadratic.specs.Formula.{quadraticL, quadraticM}
+use Rattle.couples.specs.Formula.{offset, coupleL, coupleM}
 use Rattle.lte.specs.Factors.{two, lteWith}
 use Rattle.families.specs.Rules.{ruleOf}
 use Rattle.families.specs.Rules as rules
@@ -68,7 +69,7 @@ pub record Row : Type 0 where
 abbrev pub row : (q : Question) (s : Set) (x : ℕ) (e : List ℕ) → answer q s x ≡ e → Row
 row q s x e h = record { question = q; set = s; argument = x; expected = e; holds = h }
 
--- a set of profile 1 to 8; b: bits, n: N, k: K, i: the stream, a and b of profile 8: f1 and f2
+-- a set of profile 1 to 9; b: bits, n: N, k: K, i: the stream, a and b of profile 8: f1 and f2, a, b, c and d of profile 9: P0 to P3
 abbrev pub ofdm : ℕ → ℕ → Set
 ofdm b n = record { profile = 1; bits = b; n = n; stream = 1; factors = noFactors }
 
@@ -93,6 +94,9 @@ ht40 b n i = record { profile = 7; bits = b; n = n; stream = i; factors = noFact
 abbrev pub lte : ℕ → ℕ → ℕ → Set
 lte k a b = lteWith k (two a b)
 
+abbrev pub wimax : ℕ → ℕ → ℕ → ℕ → ℕ → Set
+wimax n a b c d = record { profile = 9; bits = 1; n = n; stream = 1; factors = record { first = a; second = b; third = c; fourth = d } }
+
 -- the padding by cells = K + padding, for a K with too many cells to count them one by one here
 pub counted : (k : ℕ) → k ≤ 5114 → answer padded (turbo k) 0 ≡ (cells k - k) ∷ []
 unfolding answer
@@ -100,7 +104,7 @@ counted k h = let e : padCells k ≡ cells k - k = omega (arith, cells-are k h) 
 
 -- the table, in 01's order
 unfoldable pub stars : List Row
-unfolding answer padCells padding listL ruleOf familyOf entryBy keep numbersOf groupOf firstStep secondStep carrierM backStep lastStep carrierL rows primes firstPrime prime colsOf cols cells power firstOne generates rootFrom root gcdIn gcd noDivisor isPrime passes nextIn nextQ qOf rowOrders whichOrder orderOf rowAt entry full column origin address quadraticL
+unfolding answer padCells padding listL ruleOf familyOf entryBy keep numbersOf groupOf firstStep secondStep carrierM backStep lastStep carrierL rows primes firstPrime prime colsOf cols cells power firstOne generates rootFrom root gcdIn gcd noDivisor isPrime passes nextIn nextQ qOf rowOrders whichOrder orderOf rowAt entry full column origin address quadraticL offset coupleL
 stars =
     -- Profile 3, bits 4, N 192: M of 0, 1, 16, 17, 191
     row M (wlan 4 192) 0 (0 ∷ []) refl
@@ -154,11 +158,13 @@ stars =
     ∷ row padded (turbo 5114) 0 (6 ∷ []) (counted 5114 (omega arith))
     -- Change request 6: profile 8, K 40 with 3 and 10 begins ..
     ∷ row begins (lte 40 3 10) 5 (0 ∷ 13 ∷ 6 ∷ 19 ∷ 12 ∷ []) refl
+    -- Change request 12: profile 9, N 24 with 5, 0, 0, 0 begins ..
+    ∷ row begins (wimax 24 5 0 0 0) 8 (1 ∷ 18 ∷ 11 ∷ 4 ∷ 21 ∷ 14 ∷ 7 ∷ 0 ∷ []) refl
     ∷ []
 
 -- cases of ours, in the same form: their numbers were computed from the documents by another program than the definitions
 unfoldable pub ours : List Row
-unfolding answer padCells padding listL ruleOf familyOf entryBy keep numbersOf groupOf firstStep secondStep carrierM backStep lastStep carrierL rows primes firstPrime prime colsOf cols cells power firstOne generates rootFrom root gcdIn gcd noDivisor isPrime passes nextIn nextQ qOf rowOrders whichOrder orderOf rowAt entry full column origin address addresses turboM position turn thirdStep spatialM thirdBack spatialL quadraticL quadraticM
+unfolding answer padCells padding listL ruleOf familyOf entryBy keep numbersOf groupOf firstStep secondStep carrierM backStep lastStep carrierL rows primes firstPrime prime colsOf cols cells power firstOne generates rootFrom root gcdIn gcd noDivisor isPrime passes nextIn nextQ qOf rowOrders whichOrder orderOf rowAt entry full column origin address addresses turboM position turn thirdStep spatialM thirdBack spatialL quadraticL quadraticM offset coupleL coupleM
 ours =
     -- Profile 1, d 12: bits 6, N 1,152, where s is 3; bits 4, N 768, where s is 2
     row M (ofdm 6 1152) 1 (98 ∷ []) refl
@@ -194,6 +200,12 @@ ours =
     ∷ row M (lte 40 3 10) 7 (39 ∷ []) refl
     ∷ row L (lte 6144 263 480) 1000 (4952 ∷ []) refl
     ∷ row L (lte 6144 263 480) 6143 (217 ∷ []) refl
+    -- Profile 9: N 24 with 5, 0, 0, 0, its end; N 96 with 7, 48, 24, 72, and N 28 with 2, 1, 2, 3, where the four numbers differ
+    ∷ row ends (wimax 24 5 0 0 0) 4 (5 ∷ 22 ∷ 15 ∷ 8 ∷ []) refl
+    ∷ row M (wimax 24 5 0 0 0) 18 (1 ∷ []) refl
+    ∷ row begins (wimax 96 7 48 24 72) 8 (1 ∷ 8 ∷ 39 ∷ 46 ∷ 29 ∷ 36 ∷ 67 ∷ 74 ∷ []) refl
+    ∷ row M (wimax 96 7 48 24 72) 95 (10 ∷ []) refl
+    ∷ row begins (wimax 28 2 1 2 3) 8 (1 ∷ 18 ∷ 7 ∷ 24 ∷ 9 ∷ 26 ∷ 15 ∷ 4 ∷ []) refl
     -- M of profile 5
     ∷ row M (turbo 40) 35 (5 ∷ []) refl
     -- K 201: the second row order of twenty; C = p. The first twenty addresses, in 22 cells

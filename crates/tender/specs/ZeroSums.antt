@@ -15,11 +15,11 @@ use Rattle.tender.specs.Zero.{Numbered, positive, numbered-join, set-num
 
 add-numbered : (s : Set) (b : Reception) (h : Kept) → Numbered (addLines s b h)
 unfolding addLines
-add-numbered s b h = numbered-join (setLines s) _ (set-numbered s) (positive 4, (positive 5, (positive 13, (positive 12, (positive 14, tt)))))
+add-numbered s b h = (positive 0, numbered-join (setLines s) _ (set-numbered s) (positive 4, (positive 5, (positive 13, (positive 12, (positive 14, tt))))))
 
 read-numbered : (s : Set) (h : Kept) (k : ℕ) → Numbered (readLines s h k)
 unfolding readLines
-read-numbered s h k = numbered-join (setLines s) _ (set-numbered s) (positive 3, (positive 5, tt))
+read-numbered s h k = (positive 0, numbered-join (setLines s) _ (set-numbered s) (positive 3, (positive 5, tt)))
 
 module _ (s : Set) (h : Kept) where
   pub add-zero : (b : Reception) → (numberOf (addedOf s b h) ≡ 0) ↔ (addedOf s b h ≡ done tt)

@@ -1,4 +1,4 @@
--- The refusals of the calls on a set in the sentences of document 01, of request 4 for 16 and of request 6 for 11 and 10, in their order, and without 8, by
+-- The refusals of the calls on a set in the sentences of document 01, of request 4 for 16 and of requests 6 and 12 for 11 and 10, in their order, and without 8, by
 -- request 7: 1, 2, 3, 16, 11, 10, 4, 9. A number is said exactly when its sentence is the first that holds, and then the slice is what it was.
 use Prim.Native.Nat.{ℕ, _≤_, _<_}
 use mathlib.Core.Bool.{true, false, true≢false}
@@ -12,9 +12,9 @@ use Rattle.laws.specs.Sentences.{Sentence, sentence, FirstTrue, Told, none, mor
 use Rattle.laws.specs.Told.{told-join}
 use Rattle.sets.specs.declared.Set.{Set}
 use Rattle.profiles.specs.declared.Family.{Family}
-use Rattle.profiles.specs.declared.Family.the-variants.{Carrier, Spatial, Turbo, Quadratic}
+use Rattle.profiles.specs.declared.Family.the-variants.{Carrier, Spatial, Turbo, Quadratic, Coupled}
 use Rattle.sets.specs.Set.{familyOf}
-use Rattle.sets.specs.Numbered.{five-turbo, turbo-five, eight-quadratic, quadratic-eight}
+use Rattle.sets.specs.Numbered.{five-turbo, turbo-five, eight-quadratic, quadratic-eight, nine-coupled, coupled-nine}
 use Rattle.sets.specs.Verdict.{refusal}
 use Rattle.sets.specs.Refusals.{setSentences, set-told, refusals-apart}
 use Rattle.walks.specs.declared.Walk.{Walk}
@@ -23,9 +23,9 @@ use Rattle.walks.specs.Answer.{walkLines, oneLines, walkValues, walkSlic
 
 -- the profiles whose M is not walked
 abbrev pub NotWalked : Set → Type 0
-NotWalked s = (s .profile ≡ 5) ⊎ (s .profile ≡ 8)
+NotWalked s = (s .profile ≡ 5) ⊎ ((s .profile ≡ 8) ⊎ (s .profile ≡ 9))
 
--- a walk. 1, also: the profile is 5 or 8 and the call is the walk for M; 9: its cell is past the total
+-- a walk. 1, also: the profile is 5, 8 or 9 and the call is the walk for M; 9: its cell is past the total
 abbrev pub walkSentences : Way → Walk → List Sentence
 walkSentences way w =
     sentence 1 (NotWalked (w .set) × (way ≡ Deinterleaver))
@@ -35,31 +35,33 @@ walkSentences way w =
 abbrev pub oneSentences : Set → ℕ → List Sentence
 oneSentences s x = setSentences s ++ (sentence 4 (s .n ≤ x) ∷ [])
 
--- those two, and no other
-barred-two : (way : Way) (s : Set) → barred way (familyOf s) ≡ true → NotWalked s × (way ≡ Deinterleaver)
-barred-two Interleaver s e = absurd (true≢false (sym e))
-barred-two Deinterleaver s e = (go (familyOf s) refl e, refl)
+-- those three, and no other
+barred-one : (way : Way) (s : Set) → barred way (familyOf s) ≡ true → NotWalked s × (way ≡ Deinterleaver)
+barred-one Interleaver s e = absurd (true≢false (sym e))
+barred-one Deinterleaver s e = (go (familyOf s) refl e, refl)
   where
     go : (f : Family) → familyOf s ≡ f → oneWay f ≡ true → NotWalked s
     go Carrier q e = absurd (true≢false (sym e))
     go Spatial q e = absurd (true≢false (sym e))
     go Turbo q e = inl (turbo-five s q)
-    go Quadratic q e = inr (quadratic-eight s q)
+    go Quadratic q e = inr (inl (quadratic-eight s q))
+    go Coupled q e = inr (inr (coupled-nine s q))
 
-two-barred : (way : Way) (s : Set) → barred way (familyOf s) ≡ false → NotWalked s × (way ≡ Deinterleaver) → ⊥
-two-barred way s e h = go (h .0)
+one-barred : (way : Way) (s : Set) → barred way (familyOf s) ≡ false → NotWalked s × (way ≡ Deinterleaver) → ⊥
+one-barred way s e h = go (h .0)
   where
     none : {f : Family} → familyOf s ≡ f → oneWay f ≡ true → ⊥
     none q o = true≢false (sym (ap₂ barred (h .1) q ∙ o) ∙ e)
 
     go : NotWalked s → ⊥
     go (inl p) = none (five-turbo s p) refl
-    go (inr p) = none (eight-quadratic s p) refl
+    go (inr (inl p)) = none (eight-quadratic s p) refl
+    go (inr (inr p)) = none (nine-coupled s p) refl
 
 walk-told : (way : Way) (w : Walk) → Told (Unit {0}) (walkLines way w) (walkSentences way w)
 unfolding walkLines
 walk-told way w =
-    more (λ c e. barred-two way (w .set) e) (λ c e h. two-barred way (w .set) e h)
+    more (λ c e. barred-one way (w .set) e) (λ c e h. one-barred way (w .set) e h)
     (told-join (set-told (w .set)) (told-past 9 (ruleIn way (w .set) .total) (w .cell) none))
 
 one-told : (s : Set) (x : ℕ) → Told (Unit {0}) (oneLines s x) (oneSentences s x)

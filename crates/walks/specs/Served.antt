@@ -10,9 +10,9 @@ use Rattle.laws.specs.declared.Way.the-variants.{Interleaver, Deinterleaver}
 use Rattle.laws.specs.Outcome.{done}
 use Rattle.sets.specs.declared.Set.{Set}
 use Rattle.profiles.specs.declared.Family.{Family}
-use Rattle.profiles.specs.declared.Family.the-variants.{Carrier, Spatial, Turbo, Quadratic}
+use Rattle.profiles.specs.declared.Family.the-variants.{Carrier, Spatial, Turbo, Quadratic, Coupled}
 use Rattle.sets.specs.Set.{familyOf}
-use Rattle.sets.specs.Numbered.{turbo-five, quadratic-eight}
+use Rattle.sets.specs.Numbered.{turbo-five, quadratic-eight, coupled-nine}
 use Rattle.walks.specs.declared.Walk.{Walk}
 use Rattle.families.specs.Rules.{ruleIn, oneWay, barred}
 use Rattle.walks.specs.Answer.{walkLines, walkValues, walkedOf, foundOf}
@@ -21,7 +21,7 @@ use Rattle.families.specs.Taken.{Walkable}
 use Rattle.walks.specs.Passed.{one-found}
 use Rattle.walks.specs.Refusals.{NotWalked}
 
--- a walk is had but for M of profiles 5 and 8
+-- a walk is had but for M of profiles 5, 8 and 9
 pub walkable-listed : (way : Way) (s : Set) → Accepted s → (way ≡ Deinterleaver → NotWalked s → ⊥) → Walkable way s
 walkable-listed way s e n = record { accepted = e; had = go way (λ q. had (familyOf s) refl (n q)) }
   where
@@ -33,7 +33,8 @@ walkable-listed way s e n = record { accepted = e; had = go way (λ q. had (fami
     had Carrier q n = refl
     had Spatial q n = refl
     had Turbo q n = absurd (n (inl (turbo-five s q)))
-    had Quadratic q n = absurd (n (inr (quadratic-eight s q)))
+    had Quadratic q n = absurd (n (inr (inl (quadratic-eight s q))))
+    had Coupled q n = absurd (n (inr (inr (coupled-nine s q))))
 
 pub walk-served : (way : Way) (w : Walk) (room : ℕ) → Walkable way (w .set) → w .cell ≤ ruleIn way (w .set) .total
     → walkedOf way w room ≡ done (walkValues way w room)

@@ -72,7 +72,7 @@ fn finish_walk(w: Walk, leaf: Leaf) -> Walked
 }
 
 // The walk of a way: writes the addresses of L or M from a cell on, cell by cell, without padding; stops right after the slice is full, or at
-// the cell total. Refusals 1, for M also of profiles 5 and 8, 2, 3, 16, 11, 10, 9.
+// the cell total. Refusals 1, for M also of profiles 5, 8 and 9, 2, 3, 16, 11, 10, 9.
 pub fn walk_by(way: Way, w: Walk, out: &mut [u16]) -> Walked
     ensures answer { λ r. ⌜ sayWalked r ≡ walkedOf way w (length (now (out .entry))) ⌝ }
     ensures slice { λ r. ⌜ now (out .exit) ≡ sliceOf way w (now (out .entry)) ⌝ }
@@ -95,7 +95,7 @@ pub fn walk_l(w: Walk, out: &mut [u16]) -> Walked
     walk_by(Way::Interleaver, w, out)
 }
 
-// The walk for M, of every profile but 5 and 8: a cell is an input position.
+// The walk for M, of every profile but 5, 8 and 9: a cell is an input position.
 pub fn walk_m(w: Walk, out: &mut [u16]) -> Walked
     ensures answer { λ r. ⌜ sayWalked r ≡ walkedOf Deinterleaver w (length (now (out .entry))) ⌝ }
     ensures slice { λ r. ⌜ now (out .exit) ≡ sliceOf Deinterleaver w (now (out .entry)) ⌝ }

@@ -56,6 +56,9 @@ next-in-range-requires c κs = positive (c .before .before .before)
 next-tiered-requires : tie.Need-next-tiered-requires
 next-tiered-requires c κs = let a = c .before .before .before in (positive a, limited a)
 
+next-by-four-requires : tie.Need-next-by-four-requires
+next-by-four-requires c κs = let a = c .before .before .before in (positive a, limited a)
+
 -- what the form's next size is
 found : (a : tie.After-admitted-by) {f : Form} {r : ℕ} → a .admitted-by .result .form ≡ f
     → Next (sizeIn f (a .admitted-by .result .unit) (a .admitted-by .result .limit) (a .before .args .size .bits)) (a .before .args .size .n) r
@@ -82,9 +85,13 @@ returns-5 c = found (c .before .before .before .before) (c .before .enum-told5 .
 returns-6 : tie.Need-returns-6
 returns-6 c = found (c .before .before .before .before) (c .before .enum-told6 .given .1) (c .next-tiered .ensures)
 
+returns-7 : tie.Need-returns-7
+returns-7 c = found (c .before .before .before .before) (c .before .enum-told7 .given .1) (c .next-by-four .ensures)
+
 pub next-listed-spec : {M : Type 1} → statement M
 next-listed-spec =
     tie.close
     (tie.spec (λ c κs. search needs) mul-u (λ c. search needs) next-single-requires (λ c. search needs) next-doubling-requires (λ c. search needs)
     next-multiple-requires (λ c. search needs) (λ c κs. search needs) mul-next-multiple next-multiple-requires-2 (λ c. search needs)
-    next-in-range-requires (λ c. search needs) next-tiered-requires returns returns-2 returns-3 returns-4 returns-5 returns-6)
+    next-in-range-requires (λ c. search needs) next-tiered-requires (λ c. search needs) next-by-four-requires returns returns-2 returns-3 returns-4 returns-5 returns-6
+    returns-7)

@@ -11,10 +11,14 @@ use Rattle.leaves.proofs.is_barred.Tie as tie
 
 returns-2 : tie.Need-returns-2
 returns-2 c =
-    let t = c .before in
+    let q = c .before in
+    let t = q .before in
     let f = familyOf (t .before .before .before .args .set) in
-    ap₂ _||_ (t .is-turbo .ensures) (c .is-quadratic .ensures) ∙ one-way f ∙ sym (ap (λ (w : Way). barred w f) (t .before .enum-told2 .given .1))
+    ap₂ _||_ (t .is-turbo .ensures) (ap₂ _||_ (q .is-quadratic .ensures) (c .is-coupled .ensures))
+    ∙ one-way f
+    ∙ sym (ap (λ (w : Way). barred w f) (t .before .enum-told2 .given .1))
 
 pub is-barred-spec : {M : Type 1} → statement M
 is-barred-spec =
-    tie.close (tie.spec (λ c. search needs) (λ c. search needs) (λ c κs. search needs) (λ c κs. search needs) (λ c. search needs) returns-2)
+    tie.close
+    (tie.spec (λ c. search needs) (λ c. search needs) (λ c κs. search needs) (λ c κs. search needs) (λ c κs. search needs) (λ c. search needs) returns-2)

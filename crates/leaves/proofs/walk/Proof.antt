@@ -1,6 +1,6 @@
 -- `leaves::walk` asks the family of the set.
 use mathlib.Core.Path.{sym, _∙_}
-use Rattle.sets.specs.Beside.{the-quadratic}
+use Rattle.sets.specs.Beside.{the-quadratic, the-coupled}
 use Rattle.families.specs.Taken.{the-turbo, the-spatial, the-carrier}
 use borrow.Author.Needs.{needs}
 use Rattle.leaves.proofs.walk.Statement.{statement}
@@ -27,16 +27,24 @@ walk-requires-3 c κs =
 walk-requires-4 : tie.Need-walk-requires-4
 walk-requires-4 c κs =
     let i = c .before in
-    let s = i .before .before in
+    let t = i .before .before .before .before .before .before .before in
+    record { accepted = t .before .before .pre; which = the-coupled _ (sym (i .before .is-coupled .ensures) ∙ i .if4 .taken) }
+
+walk-requires-5 : tie.Need-walk-requires-5
+walk-requires-5 c κs =
+    let i = c .before in
+    let q = i .before .before in
+    let s = q .before .before in
     let t = s .before .before .before in
     record {
       accepted = t .before .before .pre;
       which = the-carrier _ (sym (t .is-turbo .ensures) ∙ s .before .before .if1 .left) (sym (s .before .is-spatial .ensures) ∙ s .if2 .left)
-          (sym (i .before .is-quadratic .ensures) ∙ i .if3 .left);
+          (sym (q .before .is-quadratic .ensures) ∙ q .if3 .left) (sym (i .before .is-coupled .ensures) ∙ i .if4 .left);
     }
 
 pub walk-spec : {M : Type 1} → statement M
 walk-spec =
     tie.close
     (tie.spec (λ c κs. search needs) walk-requires (λ c. search needs) (λ c. search needs) (λ c κs. search needs) walk-requires-2 (λ c. search needs) (λ c. search needs)
-    (λ c κs. search needs) walk-requires-3 (λ c. search needs) (λ c. search needs) walk-requires-4 (λ c. search needs) (λ c. search needs))
+    (λ c κs. search needs) walk-requires-3 (λ c. search needs) (λ c. search needs) (λ c κs. search needs) walk-requires-4 (λ c. search needs) (λ c. search needs)
+    walk-requires-5 (λ c. search needs) (λ c. search needs))

@@ -1,19 +1,19 @@
 -- `quadratic_walk::write_rest` goes on with a walk, whichever it is, to its count. The measure is what is left to write.
 use Prim.Native.Nat.{_-_}
-use mathlib.Core.Path.{refl}
 use native.Mathlib.Omega.{arith}
-use Rattle.quadratic_walk.specs.Spot.{Resting, rest-next, rest-all}
+use Rattle.laws.specs.Resting.{Resting, rest-first, rest-next, rest-all}
+use Rattle.quadratic_walk.specs.Spot.{SpotIn, spots, step-of}
 use Rattle.quadratic_walk.proofs.write_rest.Statement.{statement}
 use Rattle.quadratic_walk.proofs.write_rest.Tie as tie
 
 abbrev Inv-loop : tie.InvT-loop
-Inv-loop k twice out₀ from count at₀ i₀ out at i = Resting k twice count from at₀ out₀ out at i
+Inv-loop k twice out₀ from count at₀ i₀ out at i = Resting (spots k twice) (SpotIn k twice) k count from at₀ out₀ out at i
 
 abbrev μ-loop : tie.MeasureT-loop
 μ-loop k twice out₀ from count at₀ i₀ out at i = count - i
 
 loop-holds : tie.Need-loop-holds Inv-loop μ-loop
-loop-holds c = let p = c .before .pre in record { within = p .0; far = p .1; room = p .2; long = refl; gone-on = λ f1 f2 cell out₀ g. g }
+loop-holds c = let p = c .before .pre in rest-first (p .0) (p .1) (p .2)
 
 cast-out : tie.Need-cast-out Inv-loop μ-loop
 cast-out c = let w = c .before .before .loop .inv .within in omega (arith, w .value-in, w .small)
@@ -34,13 +34,14 @@ loop-less : tie.Need-loop-less Inv-loop μ-loop
 loop-less c = omega (arith, c .before .before .loop-test .taken)
 
 loop-again : tie.Need-loop-again Inv-loop μ-loop
-loop-again c = rest-next (c .before .before .loop-test .taken) (c .before .before .before .loop .inv) (c .next .ensures .0) (c .next .ensures .1)
+loop-again c =
+    rest-next (c .before .before .before .loop .inv) (c .before .before .loop-test .taken) (step-of (c .next .ensures .0)) (c .next .ensures .1)
 
 same-length : tie.Need-same-length Inv-loop μ-loop
 same-length c = c .before .loop .inv .long
 
 returns : tie.Need-returns Inv-loop μ-loop
-returns c = rest-all (c .before .loop .inv) (c .loop-test .left)
+returns c = λ f1 f2. rest-all (c .before .loop .inv) (c .loop-test .left) (f1, f2)
 
 pub write-rest-spec : {M : Type 1} → statement M
 write-rest-spec =

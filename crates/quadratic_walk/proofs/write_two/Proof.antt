@@ -1,7 +1,8 @@
 -- `quadratic_walk::write_two` is two steps of the walk, wherever it stands.
 use native.Mathlib.Omega.{arith}
 use lib.ListN.{length-set}
-use Rattle.quadratic_walk.specs.Spot.{walk-two}
+use Rattle.laws.specs.Resting.{walk-two}
+use Rattle.quadratic_walk.specs.Spot.{spots, step-of}
 use borrow.Author.Needs.{needs}
 use Rattle.quadratic_walk.proofs.write_two.Statement.{statement}
 use Rattle.quadratic_walk.proofs.write_two.Tie as tie
@@ -13,7 +14,8 @@ slice-write-out-2 c =
     omega (arith, e .pre .1, length-set (a .out .now) (a .i) (a .start .value))
 
 returns : tie.Need-returns
-returns c = λ f1 f2 cell count old h g. walk-two h (c .before .before .next .ensures .0) (c .next2 .ensures .0) g
+returns c = λ f1 f2 cell count old h g.
+    walk-two (spots _ _) (f1, f2) h (step-of (c .before .before .next .ensures .0)) (step-of (c .next2 .ensures .0)) g
 
 pub write-two-spec : {M : Type 1} → statement M
 write-two-spec =

@@ -75,9 +75,13 @@ returns-6 c =
     ap (λ (u : ℕ). leb (x .unit) n && (leb n (x .limit) && eqb (n % u) 0)) (c .step-by .ensures .0)
     ∙ sym (size-by _ (a .admitted-by .ensures) (m .enum-told6 .given .1))
 
+returns-7 : tie.Need-returns-7
+returns-7 c = sym (size-by _ (c .before .before .before .before .before .admitted-by .ensures) (c .before .before .enum-told7 .given .1))
+
 pub size-listed-spec : {M : Type 1} → statement M
 size-listed-spec =
     tie.close
     (tie.spec (λ c κs. search needs) mul-u (λ c. search needs) (λ c. search needs) mul-result mul-result-2 mul-result-3 mul-result-4
     (λ c. search needs) multiple-of-requires (λ c. search needs) (λ c κs. search needs) mul-multiple-of multiple-of-requires-2 (λ c. search needs)
-    (λ c. search needs) (λ c κs. search needs) (λ c. search needs) returns returns-2 returns-3 returns-4 returns-5 returns-6)
+    (λ c. search needs) (λ c κs. search needs) (λ c. search needs) (λ c. search needs) returns returns-2 returns-3 returns-4 returns-5 returns-6
+    returns-7)

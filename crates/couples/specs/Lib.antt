@@ -1,0 +1,5 @@
+pub mod Formula
+pub mod Four
+pub mod Law
+pub mod Symbols
+pub mod Test
