@@ -22,6 +22,7 @@ static walk_call *const walks[][SIDES] = {
     [SPATIAL] = {interleaver_walk_l, divide_spatial, step_spatial},
     [SPATIAL_M] = {interleaver_walk_m, divide_spatial_m, step_spatial_m},
     [LTE] = {interleaver_walk_l, divide_lte, step_lte},
+    [COUPLES] = {interleaver_walk_l, divide_couples, step_couples},
 };
 static move_call *const moves[][SIDES] = {
     [BYTES] = {interleaver_interleave_bytes, divide_bytes, step_bytes},
@@ -29,6 +30,8 @@ static move_call *const moves[][SIDES] = {
     [SPATIAL_BYTES] = {interleaver_interleave_bytes, divide_spatial_bytes, step_spatial_bytes},
     [LTE_BYTES] = {interleaver_interleave_bytes, divide_lte_bytes, step_lte_bytes},
     [LTE_SOFT] = {interleaver_interleave_soft, divide_lte_soft, step_lte_soft},
+    [COUPLES_BYTES] = {interleaver_interleave_bytes, divide_couples_bytes, step_couples_bytes},
+    [COUPLES_SOFT] = {interleaver_interleave_soft, divide_couples_soft, step_couples_soft},
 };
 static feed_call *const feeds[][SIDES] = {
     [DVB] = {interleaver_stream_interleave, divide_dvb, step_dvb},
@@ -136,7 +139,7 @@ uint32_t once(const struct row *r, int side)
         return totals[side](40, 39 + r->length, a->totals);
     uint32_t refused = 0;
     for (const struct set *s = sets + r->from; s < sets + r->from + r->sets && refused == 0; s++) {
-        if (r->kind <= LTE)
+        if (r->kind <= COUPLES)
             refused = walk_set(r, walks[r->kind][side], s, a);
         else if (r->kind == JUDGE)
             refused = judges[side](a->bytes, a->length, a->plan, &a->first, &a->wrong);
@@ -147,7 +150,7 @@ uint32_t once(const struct row *r, int side)
         else if (r->kind >= ADD)
             refused = add_block(r, side, s, a);
         else
-            refused = moves[r->kind][side](s, input, s->n, a->bytes, s->n);
+            refused = moves[r->kind][side](s, input, symbols_of(s), a->bytes, symbols_of(s));
     }
     return refused;
 }
@@ -157,7 +160,7 @@ static uint32_t amount(const struct row *r)
 {
     uint32_t sum = stream_of(r) != 0 || r->kind == TOTALS ? r->length : 0;
     for (uint32_t i = 0; i < r->sets; i++)
-        sum += r->length == NO_ROOM ? 1 : sets[r->from + i].n;
+        sum += r->length == NO_ROOM ? 1 : r->kind <= COUPLES ? sets[r->from + i].n : symbols_of(sets + r->from + i);
     return sum;
 }
 

@@ -4,8 +4,8 @@
 #include "plain.h"
 
 enum { OURS, DIVIDE, STEP, SIDES };
-enum kind { WALK, WRITTEN_OUT, SPATIAL, SPATIAL_M, LTE, BYTES, SOFT, SPATIAL_BYTES, LTE_BYTES, LTE_SOFT, DVB, DVB_BACK, ATSC, ATSC_BACK, JUDGE, WRITE,
-            TOTALS, ADD, ADD_SOME, READ };
+enum kind { WALK, WRITTEN_OUT, SPATIAL, SPATIAL_M, LTE, COUPLES, BYTES, SOFT, SPATIAL_BYTES, LTE_BYTES, LTE_SOFT, COUPLES_BYTES, COUPLES_SOFT, DVB,
+            DVB_BACK, ATSC, ATSC_BACK, JUDGE, WRITE, TOTALS, ADD, ADD_SOME, READ };
 extern read_call *const reads[SIDES];
 extern totals_call *const totals[SIDES];
 
@@ -13,8 +13,8 @@ extern totals_call *const totals[SIDES];
    from K 40 on are totalled. */
 enum { NO_ROOM = 65536 };
 struct row { enum kind kind; uint32_t from, sets, length; char name[80]; };
-extern struct set sets[96];
-extern struct row rows[96];
+extern struct set sets[128];
+extern struct row rows[128];
 
 /* Lays them out. The rows from `shown` on are compared, and are not in the table. */
 extern uint32_t row_count, shown;

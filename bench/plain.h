@@ -1,6 +1,7 @@
 /* What the two plain C's offer, in the same call shapes as the proved library: `divide_` works each address or byte out by document 01's
    formula, `step_` keeps counters. Neither tests its input, but where receptions are added up or read, and in plan files. `_written_out` is the
-   same C with d and s as constants of the compiler; `_spatial` serves profiles 6 and 7, `_lte` profile 8, and the others do not. */
+   same C with d and s as constants of the compiler; `_spatial` serves profiles 6 and 7, `_lte` profile 8, `_couples` profile 9, and
+   the others do not. */
 #ifndef PLAIN_H
 #define PLAIN_H
 
@@ -37,12 +38,16 @@ struct set { uint32_t profile, bits, n, stream, factors[4]; };
 typedef uint32_t walk_call(const struct set *, uint32_t *cell, uint16_t *out, size_t room, uint32_t *written, uint32_t *cells);
 walk_call divide_walk, divide_walk_written_out, step_walk, step_walk_written_out;
 walk_call divide_spatial, step_spatial, divide_spatial_m, step_spatial_m; /* for L, and for M */
-walk_call divide_lte, step_lte;
+walk_call divide_lte, step_lte, divide_couples, step_couples;
 
-/* dst[t] = src[L(t)], of bytes or of f32. */
+/* How many symbols a block has. */
+INLINE uint32_t symbols_of(const struct set *set) { return set->profile == 9 ? 2 * set->n : set->n; }
+
+/* dst[t] = src[L(t)], of bytes or of f32; of profile 9 two of them for each address, swapped where the address is odd. */
 typedef uint32_t move_call(const struct set *, const void *src, size_t, void *dst, size_t);
 move_call divide_bytes, divide_soft, step_bytes, step_soft, divide_spatial_bytes, step_spatial_bytes;
 move_call divide_lte_bytes, divide_lte_soft, step_lte_bytes, step_lte_soft;
+move_call divide_couples_bytes, divide_couples_soft, step_couples_bytes, step_couples_soft;
 #define MOVE(name, move, size) \
     uint32_t name(const struct set *set, const void *src, size_t a, void *dst, size_t b) { return (void)a, (void)b, move(set, size, src, dst); }
 

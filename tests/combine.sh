@@ -181,7 +181,7 @@ refused 13
 expect 'the largest value twice' $?
 
 # Each set that is not listed is refused before a file is opened.
-for set in '9 1 48:1' '3 3 48:2' '3 6 287:3 288' '5 1 39:3 40'; do
+for set in '10 1 48:1' '3 3 48:2' '3 6 287:3 288' '5 1 39:3 40'; do
     # shellcheck disable=SC2086
     combine ${set%:*} "$work/none"
     refused "${set#*:}"

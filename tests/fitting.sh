@@ -13,6 +13,7 @@ fits() {
         if (p == 6) size[++c] = 52 * b
         if (p == 7) size[++c] = 108 * b
         if (p == 8 && b == 1) for (n = 40; n <= 6144; n += n < 512 ? 8 : n < 1024 ? 16 : n < 2048 ? 32 : 64) size[++c] = n
+        if (p == 9 && b == 1) for (n = 24; n <= 2400; n += 4) size[++c] = n
         i = 1
         for (n = 0; n <= top; n++) {
             while (i <= c && size[i] < n) i++
@@ -23,11 +24,14 @@ fits() {
 
 for list in '1600 1 1' '1600 1 2' '1600 1 4' '1600 1 6' '100 2 1' '700 2 2' '700 2 4' '700 2 6' '100 3 1' '200 3 2' '300 3 4' '400 3 6' \
     '1600 4 1' '1600 4 2' '1600 4 4' '1600 4 6' '5200 5 1' '100 5 2' '100 6 1' '200 6 2' '300 6 4' '400 6 6' '200 7 1' '300 7 2' '500 7 4' '700 7 6' \
-    '6200 8 1' '100 8 4'; do
+    '6200 8 1' '100 8 4' '2500 9 1' '100 9 2'; do
     # shellcheck disable=SC2086
     set -- $list
     fits "$@" >"$work/want"
-    seq 0 "$1" | sed "s/^/test $2 $3 /" | ./interleaver lines | cmp -s - "$work/want"
+    # profile 9 needs its four numbers, and these pass with every size of it
+    words=
+    [ "$2" -ne 9 ] || words='p0=1 p1=0 p2=0 p3=0'
+    seq 0 "$1" | sed "s/.*/test $2 $3 & $words/" | ./interleaver lines | cmp -s - "$work/want"
     expect "the sizes that would have fitted, profile $2, bits $3" $?
 done
 
@@ -48,6 +52,6 @@ done
 expect 'factors of a K that is not listed' $?
 
 # a number other than 3 stands alone, also where N is not listed
-[ "$(printf '%s\n' 'test 9 4 100' 'test 3 3 100' 'back 5 1 39' 'at 3 4 192 192' 'test 3 4 192 stream=2' 'test 8 1 40 f1=3 f2=8' | ./interleaver lines)" = \
+[ "$(printf '%s\n' 'test 10 4 100' 'test 3 3 100' 'back 5 1 39' 'at 3 4 192 192' 'test 3 4 192 stream=2' 'test 8 1 40 f1=3 f2=8' | ./interleaver lines)" = \
     "$(printf 'refused %s\n' 1 2 1 4 16 10)" ]
 expect 'other refusals are a number alone' $?

@@ -140,5 +140,5 @@ answered
 expect 'the same as ./a=b' $?
 (cd "$work" && "$top/interleaver" combine 6 2 104 part0 a=b) >"$work/got" 2>"$work/said"
 status=$?
-failed 'interleaver: expected stream=I, f1=F or f2=G as a named word, not a=b'
+failed 'interleaver: expected stream=I, f1=F, f2=G or p0=A to p3=D as a named word, not a=b'
 expect 'the same as a=b, which is a named word' $?

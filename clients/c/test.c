@@ -1,6 +1,6 @@
 /* Tests every call of interleaver.h: addresses that are known, document 01's starred ones among them, each refusal that can be reached and their
    order, the size that 3 carries, out-parameters and buffers left alone by a refused call, walks and streams cut into parts, receptions added up
-   and read, the bits of floats, profiles 6, 7 and 8 beside their formulas, plan files written and judged, the padding report. Prints a line for each
+   and read, the bits of floats, profiles 6 to 9 beside their formulas, plan files written and judged, the padding report. Prints a line for each
    failure, and the sum. This file: the test of a set, and one address. */
 #include "test.h"
 
@@ -21,17 +21,23 @@ void expect(int ok, const char *what, const char *file, int line) {
 const interleaver_set accepted[SETS] = {SET(1, 1, 12, 1), SET(1, 6, 1152, 1), SET(2, 2, 96, 1), SET(2, 6, 576, 1), SET(3, 1, 48, 1),
     SET(3, 2, 96, 1), SET(3, 4, 192, 1), SET(3, 6, 288, 1), SET(4, 4, 64, 1), SET(4, 6, 96, 1), SET(4, 4, 1536, 1), SET(5, 1, 40, 1),
     SET(5, 1, 41, 1), SET(5, 1, 201, 1), SET(5, 1, 481, 1), SET(5, 1, 2281, 1), SET(5, 1, 5114, 1), LTE(40, 3, 10), LTE(40, 39, 30),
-    LTE(512, 31, 64), LTE(528, 17, 66), LTE(6144, 263, 480), EACH(6, 1, 52), EACH(6, 2, 104), EACH(6, 4, 208), EACH(6, 6, 312),
-    EACH(7, 1, 108), EACH(7, 2, 216), EACH(7, 4, 432), EACH(7, 6, 648)};
+    LTE(512, 31, 64), LTE(528, 17, 66), LTE(6144, 263, 480), WIMAX(24, 5, 0, 0, 0), WIMAX(28, 2, 1, 2, 3), WIMAX(96, 7, 48, 24, 72),
+    WIMAX(2400, 53, 66, 24, 2), EACH(6, 1, 52), EACH(6, 2, 104), EACH(6, 4, 208), EACH(6, 6, 312), EACH(7, 1, 108), EACH(7, 2, 216),
+    EACH(7, 4, 432), EACH(7, 6, 648)};
 
-const struct refused_set refused[REFUSED] = {{SET(0, 4, 192, 1), 1}, {SET(9, 4, 192, 1), 1}, {SET(4294967295u, 9, 9, 9), 1},
-    {{9, 1, 40, 1, {3, 10, 0, 0}}, 1}, {SET(2, 1, 96, 1), 2}, {SET(3, 3, 192, 1), 2}, {SET(5, 2, 40, 1), 2}, {SET(6, 3, 156, 1), 2},
-    {SET(7, 5, 540, 1), 2}, {SET(8, 4, 192, 1), 2}, {{8, 2, 40, 1, {3, 10, 0, 0}}, 2}, {SET(3, 4, 96, 1), 3}, {SET(1, 6, 1153, 1), 3},
+const struct refused_set refused[REFUSED] = {{SET(0, 4, 192, 1), 1}, {SET(10, 4, 192, 1), 1}, {SET(4294967295u, 9, 9, 9), 1},
+    {{10, 1, 40, 1, {3, 10, 0, 0}}, 1}, {{10, 1, 24, 1, {5, 0, 0, 0}}, 1}, {SET(2, 1, 96, 1), 2}, {SET(3, 3, 192, 1), 2},
+    {SET(5, 2, 40, 1), 2}, {SET(6, 3, 156, 1), 2}, {SET(7, 5, 540, 1), 2}, {SET(8, 4, 192, 1), 2}, {{8, 2, 40, 1, {3, 10, 0, 0}}, 2},
+    {SET(9, 4, 192, 1), 2}, {{9, 2, 24, 1, {5, 0, 0, 0}}, 2}, {SET(3, 4, 96, 1), 3}, {SET(1, 6, 1153, 1), 3},
     {SET(5, 1, 39, 1), 3}, {SET(5, 1, 5115, 1), 3}, {SET(3, 4, 0, 1), 3}, {SET(3, 4, 4294967295u, 1), 3}, {SET(6, 4, 432, 1), 3},
     {SET(7, 4, 208, 1), 3}, {LTE(32, 3, 10), 3}, {LTE(520, 3, 10), 3}, {LTE(6208, 3, 10), 3}, {SET(6, 1, 52, 0), 16}, {SET(7, 6, 648, 5), 16},
     {SET(6, 4, 208, 4294967295u), 16}, {SET(1, 1, 192, 2), 16}, {SET(2, 2, 192, 2), 16}, {SET(3, 4, 192, 2), 16}, {SET(4, 4, 192, 3), 16},
     {SET(5, 1, 192, 2), 16}, {SET(3, 4, 192, 0), 16}, {{8, 1, 40, 2, {3, 10, 0, 0}}, 16}, {SET(8, 1, 192, 1), 11}, {LTE(192, 23, 192), 11},
-    {LTE(192, 192, 48), 11}, {LTE(192, 23, 50), 10}, {LTE(192, 27, 48), 10}, {LTE(6144, 263, 482), 10}};
+    {LTE(192, 192, 48), 11}, {LTE(192, 23, 50), 10}, {LTE(192, 27, 48), 10}, {LTE(6144, 263, 482), 10},
+    {WIMAX(20, 5, 0, 0, 0), 3}, {WIMAX(26, 5, 0, 0, 0), 3}, {WIMAX(2404, 5, 0, 0, 0), 3},
+    {{9, 1, 96, 2, {7, 48, 24, 72}}, 16}, {WIMAX(96, 96, 48, 24, 72), 11}, {WIMAX(96, 7, 96, 24, 72), 11}, {WIMAX(96, 7, 48, 96, 72), 11},
+    {WIMAX(96, 7, 48, 24, 96), 11}, {SET(9, 1, 192, 1), 10}, {WIMAX(96, 7, 49, 24, 72), 10}, {WIMAX(96, 9, 48, 24, 72), 10},
+    {WIMAX(2400, 55, 66, 24, 2), 10}};
 
 uint8_t byte_of(uint32_t i) { return (uint8_t)(i * 31 + i / 251); }
 
@@ -53,7 +59,9 @@ uint32_t at_m(interleaver_set set, uint32_t k) {
     return address;
 }
 
-int walks_m(uint32_t profile) { return profile != 5 && profile != 8; }
+int walks_m(uint32_t profile) { return profile != 5 && profile != 8 && profile != 9; }
+
+int receives(uint32_t profile) { return profile != 9; }
 
 int all_addresses(const uint16_t *p, size_t n, uint16_t x) {
     while (n > 0 && *p == x)
@@ -89,7 +97,9 @@ static void addresses(void) {
     } known_l[] = {{SET(4, 4, 64, 1), 4, 17}, {SET(4, 4, 64, 1), 5, 1}, {SET(4, 4, 64, 1), 6, 49}, {SET(4, 4, 64, 1), 7, 33},
         {SET(4, 6, 96, 1), 6, 17}, {SET(5, 1, 40, 1), 0, 39}, {SET(5, 1, 40, 1), 9, 5}, {SET(5, 1, 40, 1), 35, 33}, {SET(5, 1, 40, 1), 39, 7},
         {SET(5, 1, 41, 1), 5, 36}, {LTE(40, 3, 10), 0, 0}, {LTE(40, 3, 10), 1, 13}, {LTE(40, 3, 10), 2, 6}, {LTE(40, 3, 10), 3, 19},
-        {LTE(40, 3, 10), 4, 12}, {LTE(40, 3, 10), 39, 7}};
+        {LTE(40, 3, 10), 4, 12}, {LTE(40, 3, 10), 39, 7}, {WIMAX(24, 5, 0, 0, 0), 0, 1}, {WIMAX(24, 5, 0, 0, 0), 1, 18},
+        {WIMAX(24, 5, 0, 0, 0), 2, 11}, {WIMAX(24, 5, 0, 0, 0), 3, 4}, {WIMAX(24, 5, 0, 0, 0), 7, 0}, {WIMAX(24, 5, 0, 0, 0), 23, 8},
+        {WIMAX(96, 7, 48, 24, 72), 1, 8}, {WIMAX(2400, 53, 66, 24, 2), 7, 1574}};
     uint32_t address = 77;
     unsigned i;
     for (i = 0; i < sizeof known_m / sizeof known_m[0]; i++) {
@@ -118,6 +128,8 @@ int main(void) {
     spatial();
     lte();
     lte_refused();
+    wimax();
+    wimax_refused();
     order_of_refusals();
     bytes();
     floats();

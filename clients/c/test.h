@@ -8,19 +8,21 @@
 #define EXPECT(ok) expect((ok), #ok, __FILE__, __LINE__)
 void expect(int ok, const char *what, const char *file, int line);
 
-/* a set without factors, and one of profile 8 */
+/* a set without factors, one of profile 8, and one of profile 9 */
 #define SET(profile, bits, n, stream) {profile, bits, n, stream, {0, 0, 0, 0}}
 #define LTE(n, f1, f2) {8, 1, n, 1, {f1, f2, 0, 0}}
+#define WIMAX(n, p0, p1, p2, p3) {9, 1, n, 1, {p0, p1, p2, p3}}
 
 /* sets of every profile that are accepted, from SPATIAL on all of profiles 6 and 7, and sets that are refused, each with its number */
-enum { SETS = 54, SPATIAL = 22, REFUSED = 38, MAX = INTERLEAVER_MAX_N };
+enum { SETS = 58, SPATIAL = 26, REFUSED = 53, MAX = INTERLEAVER_MAX_N };
 extern const interleaver_set accepted[SETS];
 extern const struct refused_set {
     interleaver_set set;
     uint32_t number;
 } refused[REFUSED];
 
-int walks_m(uint32_t profile); /* whether a profile has a walk for M: every one but 5 and 8 */
+int walks_m(uint32_t profile); /* whether a profile has a walk for M: every one but 5, 8 and 9 */
+int receives(uint32_t profile); /* whether a profile has receptions: every one but 9 */
 
 /* L(t) and M(k) of an accepted set */
 uint32_t at_l(interleaver_set set, uint32_t t);
@@ -28,6 +30,14 @@ uint32_t at_m(interleaver_set set, uint32_t k);
 
 uint32_t quadratic(interleaver_set set, uint32_t t); /* L(t) of a set of profile 8, by its formula */
 uint32_t next_k(uint32_t k); /* the size of profile 8 behind a listed one */
+uint32_t couple_at(interleaver_set set, uint32_t j); /* L(j) of a set of profile 9, by its formula */
+
+/* of an accepted set of profile 8 or 9, whose list is l: whether one walk with room for more than the list is the list, each cell with its address; that
+   every walk for L and every single address is as the list; and of any set of these profiles that the walk for M is refused with 1, from any cell and with
+   any room */
+int walks_whole(interleaver_set set, const uint16_t *l);
+void list_is(interleaver_set set, const uint16_t *l);
+void no_walk_m(interleaver_set set);
 
 int prime(uint32_t x); /* whether a number above 1 is prime, by trial division */
 
@@ -113,6 +123,8 @@ void walks(void);
 void spatial(void);
 void lte(void);
 void lte_refused(void);
+void wimax(void);
+void wimax_refused(void);
 void order_of_refusals(void);
 void bytes(void);
 void floats(void);

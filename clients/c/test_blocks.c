@@ -1,14 +1,24 @@
 /* Whole blocks of bytes, of floats and of symbols of any width, moved there and back. */
 #include "test.h"
 
+/* the input symbol of each output symbol, by the walk for L. Of profile 9 that gives couples: an odd one is its B, its A */
+static void sources(interleaver_set set, uint16_t *l) {
+    uint32_t cell = 0, written, cells, j;
+    EXPECT(interleaver_walk_l(&set, &cell, l, set.n, &written, &cells) == 0);
+    for (j = set.profile == 9 ? set.n : 0; j-- > 0;) { /* from the last on, since each becomes two */
+        uint32_t c = l[j], odd = c % 2;
+        l[2 * j] = (uint16_t)(2 * c + odd);
+        l[2 * j + 1] = (uint16_t)(2 * c + 1 - odd);
+    }
+}
+
 void bytes(void) {
     static uint8_t src[MAX + 1], dst[MAX + 1], back[MAX + 1];
     static uint16_t l[MAX];
     unsigned i, t, wrong;
     for (i = 0; i < SETS; i++) {
         interleaver_set set = accepted[i];
-        size_t n = set.n;
-        uint32_t cell = 0, written, cells;
+        size_t n = interleaver_symbols(&set);
         for (t = 0; t < n; t++)
             src[t] = byte_of(t);
         memset(dst, 99, sizeof dst);
@@ -20,7 +30,7 @@ void bytes(void) {
         EXPECT(interleaver_interleave_bytes(&set, src, 0, dst, 0) == INTERLEAVER_INPUT);
         EXPECT(all_bytes(dst, sizeof dst, 99));
         EXPECT(interleaver_interleave_bytes(&set, src, n, dst, n) == 0 && dst[n] == 99);
-        EXPECT(interleaver_walk_l(&set, &cell, l, n, &written, &cells) == 0);
+        sources(set, l);
         for (wrong = 0, t = 0; t < n; t++)
             wrong += dst[t] != src[l[t]];
         EXPECT(wrong == 0);
@@ -56,8 +66,7 @@ void floats(void) {
     unsigned i, t, wrong;
     for (i = 0; i < SETS; i++) {
         interleaver_set set = accepted[i];
-        size_t n = set.n, size = n * sizeof src[0];
-        uint32_t cell = 0, written, cells;
+        size_t n = interleaver_symbols(&set), size = n * sizeof src[0];
         for (t = 0; t < n; t++)
             bits[t] = pattern(t, x = x * 1664525u + 1013904223u);
         memcpy(src, bits, size);
@@ -68,7 +77,7 @@ void floats(void) {
         EXPECT(interleaver_deinterleave_soft(&set, src, n, dst, n - 1) == INTERLEAVER_OUTPUT);
         EXPECT(all_bytes((const uint8_t *)dst, sizeof dst, 99));
         EXPECT(interleaver_interleave_soft(&set, src, n, dst, n) == 0);
-        EXPECT(interleaver_walk_l(&set, &cell, l, n, &written, &cells) == 0);
+        sources(set, l);
         memcpy(moved, dst, size);
         for (wrong = 0, t = 0; t < n; t++)
             wrong += moved[t] != bits[l[t]];
@@ -85,12 +94,11 @@ void floats(void) {
     EXPECT(all_bytes((const uint8_t *)dst, sizeof dst, 99));
 }
 
-/* symbols of w bytes: byte b of output symbol t is byte b of input symbol L(t) */
+/* symbols of w bytes: byte b of output symbol t is byte b of its input symbol */
 static void of_width(interleaver_set set, unsigned w) {
     static uint8_t src[MAX * 9 + 1], dst[MAX * 9 + 1], back[MAX * 9 + 1];
     static uint16_t l[MAX];
-    size_t n = set.n, size = n * w;
-    uint32_t cell = 0, written, cells;
+    size_t size = interleaver_symbols(&set) * w;
     unsigned i, wrong;
     for (i = 0; i < size; i++)
         src[i] = byte_of(i);
@@ -101,7 +109,7 @@ static void of_width(interleaver_set set, unsigned w) {
     EXPECT(interleaver_deinterleave_symbols(&set, w, src, size, dst, size + 1) == INTERLEAVER_OUTPUT);
     EXPECT(all_bytes(dst, sizeof dst, 99));
     EXPECT(interleaver_interleave_symbols(&set, w, src, size, dst, size) == 0 && dst[size] == 99);
-    EXPECT(interleaver_walk_l(&set, &cell, l, n, &written, &cells) == 0);
+    sources(set, l);
     for (wrong = 0, i = 0; i < size; i++)
         wrong += dst[i] != src[l[i / w] * w + i % w];
     EXPECT(wrong == 0);

@@ -1,4 +1,4 @@
-/* The size that refusal 3 carries, beside the lists of sizes written out from document 01 and requests 4 and 6: every size up to 7,000, and some that
+/* The size that refusal 3 carries, beside the lists of sizes written out from document 01 and requests 4, 6 and 12: every size up to 7,000, and some that
    are far larger, of every profile and bits that are listed and of some that aren't. */
 #include "test.h"
 
@@ -19,7 +19,7 @@ static unsigned steps(uint32_t *sizes, uint32_t first, uint32_t last, uint32_t s
 static unsigned list(uint32_t profile, uint32_t bits, uint32_t *sizes) {
     uint32_t group = bits < 4 ? 1 : bits / 2, n;
     unsigned count = 0;
-    if (profile == 5 || profile == 8 ? bits != 1 : !among(bits, profile == 2 ? 2 : 1, 2, 4, 6))
+    if (profile == 5 || profile == 8 || profile == 9 ? bits != 1 : !among(bits, profile == 2 ? 2 : 1, 2, 4, 6))
         return 0;
     switch (profile) {
     case 1:
@@ -42,17 +42,19 @@ static unsigned list(uint32_t profile, uint32_t bits, uint32_t *sizes) {
         for (n = 40; n <= 6144; n = next_k(n))
             sizes[count++] = n;
         return count;
+    case 9:
+        return steps(sizes, 24, 2400, 4);
     }
     return 0;
 }
 
-/* one size: next is the place of the first listed one that is not below it */
+/* one size: next is the place of the first listed one that is not below it. Factors of 0 are refused by profiles 8 and 9, each in its own way */
 static int right(interleaver_set set, const uint32_t *sizes, unsigned count, unsigned next) {
     uint32_t number = interleaver_test(&set), fitting = interleaver_fitting(&set);
     if (count == 0)
         return number < INTERLEAVER_SIZE && number != INTERLEAVER_DONE && fitting == 0;
     if (next < count && sizes[next] == set.n)
-        return number == (set.profile == 8 ? INTERLEAVER_FACTORS : INTERLEAVER_DONE) && fitting == 0;
+        return number == (set.profile == 8 ? INTERLEAVER_FACTORS : set.profile == 9 ? INTERLEAVER_SHARED : INTERLEAVER_DONE) && fitting == 0;
     return number == INTERLEAVER_SIZE && fitting == (next < count ? sizes[next] : 0);
 }
 
@@ -80,14 +82,16 @@ void fitting(void) {
         uint32_t fitting;
     } known[] = {{SET(3, 4, 100, 1), 192}, {SET(3, 4, 193, 1), 0}, {SET(3, 4, 192, 1), 0}, {SET(2, 4, 577, 1), 0}, {SET(2, 6, 1, 1), 288},
         {SET(5, 1, 39, 1), 40}, {SET(8, 1, 513, 1), 528}, {SET(8, 1, 6145, 1), 0}, {SET(3, 4, 100, 9), 192}, {SET(3, 4, 192, 9), 0},
-        {SET(3, 3, 100, 1), 0}, {SET(9, 4, 100, 1), 0}, {LTE(40, 0, 10), 0}, {LTE(40, 3, 8), 0}, {LTE(41, 0, 0), 48}};
+        {SET(3, 3, 100, 1), 0}, {SET(10, 4, 100, 1), 0}, {LTE(40, 0, 10), 0}, {LTE(40, 3, 8), 0}, {LTE(41, 0, 0), 48},
+        {WIMAX(20, 5, 0, 0, 0), 24}, {WIMAX(26, 5, 0, 0, 0), 28}, {WIMAX(26, FAR, 0, 0, 0), 28}, {WIMAX(2399, 5, 0, 0, 0), 2400},
+        {WIMAX(2404, 5, 0, 0, 0), 0}, {WIMAX(24, 5, 1, 0, 0), 0}, {WIMAX(24, 24, 0, 0, 0), 0}, {SET(9, 2, 26, 1), 0}};
     interleaver_set five = SET(5, 1, 39, 1);
     uint32_t profile, factors[4] = {7, 7, 7, 7}, cell = 0, written, cells;
     uint16_t list_of[3];
     unsigned i;
-    for (profile = 0; profile <= 10; profile++)
+    for (profile = 0; profile <= 11; profile++)
         for (i = 0; i < sizeof bits / sizeof bits[0]; i++)
-            EXPECT(of_bits(profile < 10 ? profile : FAR, bits[i]) == 0);
+            EXPECT(of_bits(profile < 11 ? profile : FAR, bits[i]) == 0);
     for (i = 0; i < sizeof known / sizeof known[0]; i++)
         EXPECT(interleaver_fitting(&known[i].set) == known[i].fitting);
     for (i = 0; i < SETS; i++)

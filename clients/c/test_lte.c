@@ -1,5 +1,5 @@
-/* Profile 8: lists, walks from any cell, single addresses, blocks and receptions beside the formula, which is worked out in 64 bits; the standard's
-   own factors. test_lte_refused.c has what is refused. */
+/* Profile 8: lists, walks from any cell, single addresses (test_lists.c), blocks and receptions beside the formula, which is worked out in 64 bits; the
+   standard's own factors. test_lte_refused.c has what is refused. */
 #include "test.h"
 
 static uint16_t l[MAX]; /* the list of a set by its formula */
@@ -17,80 +17,15 @@ static void reckon(interleaver_set set) {
         l[t] = (uint16_t)quadratic(set, t);
 }
 
-/* whether one walk with room for more than the list is the list, each cell with its address */
-static int walks_whole(interleaver_set set) {
-    static uint16_t out[MAX + 1];
-    uint32_t cell = 0, written = 9, cells = 9;
-    memset(out, 0xee, sizeof out);
-    return interleaver_walk_l(&set, &cell, out, set.n + 1, &written, &cells) == INTERLEAVER_DONE && cell == set.n && written == set.n &&
-           cells == set.n && memcmp(out, l, 2 * set.n) == 0 && out[set.n] == 0xeeee;
-}
-
-/* walks that are refused, and change nothing */
-static int refuses(interleaver_set set, uint32_t cell, uint16_t *out, size_t room) {
-    interleaver_set shared = set, none = set;
-    uint32_t past = set.n + 1, written = 9, cells = 9, from = cell;
-    shared.factors[0] = 2;
-    none.factors[1] = 0;
-    return interleaver_walk_l(&set, &past, out, room, &written, &cells) == INTERLEAVER_RECORD &&
-           interleaver_walk_l(&shared, &cell, out, room, &written, &cells) == INTERLEAVER_SHARED &&
-           interleaver_walk_l(&none, &cell, out, room, &written, &cells) == INTERLEAVER_FACTORS &&
-           interleaver_walk_m(&set, &cell, out, room, &written, &cells) == INTERLEAVER_PROFILE && past == set.n + 1 && cell == from &&
-           written == 9 && cells == 9 && all_addresses(out, room, 0xeeee);
-}
-
-/* whether a walk from a cell to the end, in slices of one length with refused walks between, is the rest of the list */
-static int walks_sliced(interleaver_set set, uint32_t from, uint32_t room) {
-    static uint16_t out[MAX + 32];
-    uint32_t cell = from, at = 0, written = room, cells;
-    memset(out, 0xee, sizeof out);
-    while (written == room) {
-        uint32_t left = set.n - cell, before = cell, want = room < left ? room : left;
-        if (!refuses(set, cell, out + at, room) || interleaver_walk_l(&set, &cell, out + at, room, &written, &cells) != INTERLEAVER_DONE)
-            return 0;
-        if (written != want || cells != want || cell != before + want)
-            return 0;
-        at += written;
-    }
-    return cell == set.n && memcmp(out, l + from, 2 * at) == 0 && all_addresses(out + at, 16, 0xeeee);
-}
-
-static int there_and_back(interleaver_set set, uint32_t t) {
-    uint32_t address = 4294967295u, place = 4294967295u;
-    return interleaver_address_l(&set, t, &address) == INTERLEAVER_DONE && address == l[t] &&
-           interleaver_address_m(&set, address, &place) == INTERLEAVER_DONE && place == t;
-}
-
-/* at n and past it there is no address */
-static void no_address(interleaver_set set) {
-    uint32_t past[] = {set.n, set.n + 1, 65536, 4294967295u}, address = 77;
-    unsigned i;
-    for (i = 0; i < 4; i++) {
-        EXPECT(interleaver_address_l(&set, past[i], &address) == INTERLEAVER_POSITION && address == 77);
-        EXPECT(interleaver_address_m(&set, past[i], &address) == INTERLEAVER_POSITION && address == 77);
-    }
-}
-
 static void lists(void) {
     static const interleaver_set sets[] = {LTE(40, 3, 10), LTE(40, 39, 30), LTE(48, 7, 12), LTE(64, 63, 62), LTE(512, 31, 64), LTE(528, 17, 66),
         LTE(1024, 31, 64), LTE(1056, 17, 66), LTE(2048, 31, 64), LTE(2112, 17, 66), LTE(6144, 263, 480), LTE(6144, 6143, 6138)};
     static const uint16_t first[] = {0, 13, 6, 19, 12};
-    static const uint32_t rooms[] = {1, 7, 13};
-    unsigned i, j, t, wrong;
+    unsigned i;
     for (i = 0; i < sizeof sets / sizeof sets[0]; i++) {
-        interleaver_set set = sets[i];
-        reckon(set);
+        reckon(sets[i]);
         EXPECT(i > 0 || memcmp(l, first, sizeof first) == 0);
-        EXPECT(walks_whole(set));
-        for (wrong = 0, t = 0; t < set.n; t++)
-            wrong += !there_and_back(set, t);
-        EXPECT(wrong == 0);
-        no_address(set);
-        for (wrong = 0, j = 0; j < 3; j++)
-            for (t = 0; t <= set.n; t++)
-                if (set.n <= 64 || t % (set.n / 7) == 0 || set.n - t < 3) /* every cell of a small list, some of a large one */
-                    wrong += !walks_sliced(set, t, rooms[j]);
-        EXPECT(wrong == 0);
+        list_is(sets[i], l);
     }
 }
 
@@ -115,7 +50,7 @@ static void standard(void) {
         }
         set = interleaver_set_lte(k, f[1], f[2]);
         reckon(set);
-        wrong += number != INTERLEAVER_DONE || f[3] != 0 || f[4] != 0 || interleaver_test(&set) != INTERLEAVER_DONE || !walks_whole(set);
+        wrong += number != INTERLEAVER_DONE || f[3] != 0 || f[4] != 0 || interleaver_test(&set) != INTERLEAVER_DONE || !walks_whole(set, l);
         weight = (weight * 31 + f[1]) * 31 + f[2];
         last = k;
         listed = k < MAX ? next_k(k) : 0;

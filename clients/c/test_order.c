@@ -16,7 +16,7 @@ static const float soft[LONG];
 /* the set's number, or where the set is accepted that of the call's own fault */
 static uint32_t first(uint32_t number, uint32_t own) { return number != 0 ? number : own; }
 
-/* positions and cells that are past the end. The walk for M refuses profiles 5 and 8 with 1 */
+/* positions and cells that are past the end. The walk for M refuses profiles 5, 8 and 9 with 1 */
 static void places(interleaver_set set, uint32_t number) {
     uint32_t back = walks_m(set.profile) ? first(number, INTERLEAVER_RECORD) : 1;
     EXPECT(interleaver_test(&set) == number);
@@ -43,9 +43,13 @@ static void lengths(interleaver_set set, size_t n, uint32_t number) {
     EXPECT(interleaver_deinterleave_symbols(&set, WIDTH, src, WIDTH * n, lent.bytes, WIDTH * n - 1) == six);
 }
 
+/* what receptions of a set that is refused so say: 1 of profile 9 */
+static uint32_t heard(interleaver_set set, uint32_t number) { return receives(set.profile) ? number : 1; }
+
 /* receptions of an accepted set's shape, one fault upon the other: 15, 13, 14, 6, 5; and readings */
 static void receptions(interleaver_set set, interleaver_set shape, uint32_t number) {
     size_t n = shape.n, length[4] = {n, n, n, n};
+    number = heard(set, number);
     all(shape, ONE, FULL, ONE, PRESENT);
     EXPECT(add_with(set, length) == first(number, INTERLEAVER_COUNT) && same());
     hear(1, QUIET, PRESENT);
@@ -63,7 +67,7 @@ static void receptions(interleaver_set set, interleaver_set shape, uint32_t numb
 /* a refused set in calls that have no other fault */
 static void alone(interleaver_set set, interleaver_set shape, uint32_t number) {
     uint32_t back = walks_m(set.profile) ? number : 1;
-    size_t n = shape.n, length[4] = {n, n, n, n};
+    size_t n = interleaver_symbols(&shape), length[4] = {n, n, n, n};
     EXPECT(interleaver_address_l(&set, 0, &lent.address) == number);
     EXPECT(interleaver_address_m(&set, 0, &lent.address) == number);
     EXPECT(interleaver_walk_l(&set, &lent.cell, lent.list, n, &lent.written, &lent.cells) == number);
@@ -75,8 +79,8 @@ static void alone(interleaver_set set, interleaver_set shape, uint32_t number) {
     EXPECT(interleaver_interleave_symbols(&set, WIDTH, src, WIDTH * n, lent.bytes, WIDTH * n) == number);
     EXPECT(interleaver_deinterleave_symbols(&set, WIDTH, src, WIDTH * n, lent.bytes, WIDTH * n) == number);
     all(shape, ONE, 1, ONE, PRESENT);
-    EXPECT(add_with(set, length) == number && same());
-    EXPECT(interleaver_read_sum(&set, now.sums, n, now.counts, n, 0, &lent.sum, &lent.count) == number);
+    EXPECT(add_with(set, length) == heard(set, number) && same());
+    EXPECT(interleaver_read_sum(&set, now.sums, n, now.counts, n, 0, &lent.sum, &lent.count) == heard(set, number));
 }
 
 static void every_call(interleaver_set set, interleaver_set shape, uint32_t number) {
@@ -84,7 +88,7 @@ static void every_call(interleaver_set set, interleaver_set shape, uint32_t numb
     lent.cell = 0, lent.past = FAR;
     memcpy(&before, &lent, sizeof lent);
     places(set, number);
-    lengths(set, shape.n, number);
+    lengths(set, interleaver_symbols(&shape), number);
     receptions(set, shape, number);
     if (number != INTERLEAVER_DONE)
         alone(set, shape, number);
@@ -129,11 +133,13 @@ static void every_search(void) {
 
 void order_of_refusals(void) {
     static const interleaver_set shapes[] = {SET(1, 6, 72, 1), SET(2, 2, 96, 1), SET(3, 4, 192, 1), SET(4, 4, 64, 1), SET(5, 1, 40, 1),
-        SET(6, 1, 52, 1), SET(6, 4, 208, 2), SET(7, 2, 216, 3), SET(7, 6, 648, 4), LTE(40, 3, 10)};
+        SET(6, 1, 52, 1), SET(6, 4, 208, 2), SET(7, 2, 216, 3), SET(7, 6, 648, 4), LTE(40, 3, 10), WIMAX(24, 5, 0, 0, 0)};
     static const uint32_t streams_tried[] = {2, 3, 4, 0, 5, 6, 257, 65537, 2147483649u, FAR};
     static const struct {
-        uint32_t f1, f2, number;
-    } factors_tried[] = {{0, 10, 11}, {3, 0, 11}, {40, 10, 11}, {3, 40, 11}, {2, FAR, 11}, {FAR, 8, 11}, {3, 8, 10}, {5, 10, 10}, {2, 10, 10}};
+        uint32_t factors[4], lte, wimax; /* and what they are refused with, of profiles 8 and 9 */
+    } factors_tried[] = {{{0, 10, 0, 0}, 11, 10}, {{3, 0, 0, 0}, 11, 10}, {{40, 10, 0, 0}, 11, 11}, {{3, 40, 0, 0}, 11, 11}, {{2, FAR, 0, 0}, 11, 11},
+        {{FAR, 8, 0, 0}, 11, 11}, {{3, 8, 0, 0}, 10, 10}, {{5, 10, 0, 0}, 10, 10}, {{2, 10, 0, 0}, 10, 10}, {{5, 0, 24, 0}, 11, 11},
+        {{5, 0, 0, FAR}, 11, 11}, {{3, 10, FAR, FAR}, 0, 11}, {{5, 0, 0, 1}, 11, 10}, {{23, 23, 23, 22}, 10, 0}};
     unsigned i, j;
     for (i = 0; i < sizeof shapes / sizeof shapes[0]; i++) {
         interleaver_set shape = shapes[i];
@@ -142,15 +148,15 @@ void order_of_refusals(void) {
         for (j = 0; j < sizeof streams_tried / sizeof streams_tried[0]; j++) {
             interleaver_set set = shape;
             set.stream = streams_tried[j];
-            upwards(set, shape, j < 3 && spatial ? INTERLEAVER_DONE : INTERLEAVER_STREAM, j % 2 == 0 ? 9 : 0);
+            upwards(set, shape, j < 3 && spatial ? INTERLEAVER_DONE : INTERLEAVER_STREAM, j % 2 == 0 ? 10 : 0);
         }
         for (j = 0; j < sizeof factors_tried / sizeof factors_tried[0]; j++) {
             interleaver_set set = shape;
-            set.factors[0] = factors_tried[j].f1;
-            set.factors[1] = factors_tried[j].f2;
-            every_call(set, shape, shape.profile == 8 ? factors_tried[j].number : INTERLEAVER_DONE); /* no other profile reads them */
+            uint32_t number = shape.profile == 8 ? factors_tried[j].lte : shape.profile == 9 ? factors_tried[j].wimax : INTERLEAVER_DONE;
+            memcpy(set.factors, factors_tried[j].factors, sizeof set.factors);
+            every_call(set, shape, number);
             set.stream = 5;
-            upwards(set, shape, INTERLEAVER_STREAM, 9);
+            upwards(set, shape, INTERLEAVER_STREAM, 10);
         }
     }
     every_search();

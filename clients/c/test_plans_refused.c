@@ -57,7 +57,7 @@ static int judged_anew(const uint8_t *bytes, size_t length, unsigned i) {
 
 /* each number of the header another: the form goes with the number of plans, offsets and counts, and not with sets, which are judged by themselves */
 static void header(void) {
-    static const uint32_t tried[] = {0, 1, 2, 3, 4, 5, 6, 8, 16, 17, 40, 41, 44, 192, 256, 261, 428, 508, 65536, HALF - 1, HALF, HALF + 40, FAR};
+    static const uint32_t tried[] = {0, 1, 2, 3, 4, 5, 6, 8, 9, 16, 17, 40, 41, 44, 192, 256, 261, 428, 508, 65536, HALF - 1, HALF, HALF + 40, FAR};
     unsigned i, j, wrong;
     size_t length = make_file(file, two, 2, 0);
     for (i = 0; i < 11; i++)
@@ -148,7 +148,7 @@ static void largest(void) {
 static void sets_and_plans(void) {
     static const struct {
         uint32_t set[3], number;
-    } bad[] = {{{0, 4, 192}, 1}, {{6, 4, 208}, 1}, {{7, 1, 108}, 1}, {{8, 1, 40}, 1}, {{9, 4, 192}, 1}, {{259, 4, 192}, 1}, {{261, 1, 40}, 1},
+    } bad[] = {{{0, 4, 192}, 1}, {{6, 4, 208}, 1}, {{7, 1, 108}, 1}, {{8, 1, 40}, 1}, {{9, 1, 24}, 1}, {{10, 4, 192}, 1}, {{259, 4, 192}, 1}, {{261, 1, 40}, 1},
         {{HALF + 3, 4, 192}, 1}, {{FAR, 9, 9}, 1}, {{6, 3, 0}, 1}, {{3, 0, 192}, 2}, {{3, 3, 192}, 2}, {{3, 260, 192}, 2}, {{2, 1, 96}, 2},
         {{5, 2, 40}, 2}, {{3, FAR, 7}, 2}, {{3, 4, 191}, 3}, {{3, 4, 0}, 3}, {{3, 4, 65728}, 3}, {{5, 1, 39}, 3}, {{5, 1, 5115}, 3}, {{5, 1, FAR}, 3}};
     static const uint32_t beyond[] = {0, 3, 4, 16, 17, 257, 65537, HALF + 1, FAR};

@@ -37,7 +37,8 @@ static void numbers_of_sets(void) {
 
 /* two bad sets among five: the first one's number */
 static void first_bad(void) {
-    static const uint32_t bad[][4] = {{8, 1, 40, 1}, {0, 4, 192, 1}, {6, 4, 208, 1}, {3, 3, 192, 2}, {5, 2, 40, 2}, {3, 4, 100, 3}, {5, 1, FAR, 3}};
+    static const uint32_t bad[][4] = {{8, 1, 40, 1}, {9, 1, 24, 1}, {0, 4, 192, 1}, {6, 4, 208, 1}, {3, 3, 192, 2}, {5, 2, 40, 2}, {3, 4, 100, 3},
+        {5, 1, FAR, 3}};
     const unsigned kinds = sizeof bad / sizeof bad[0];
     uint32_t sets[5][3];
     unsigned i, j, a, b;

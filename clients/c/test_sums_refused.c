@@ -145,7 +145,7 @@ void sums_refused(interleaver_set set, const uint16_t *l) {
     }
 }
 
-/* sets that are refused: before every other fault of the call */
+/* sets that are refused: before every other fault of the call. Profile 9 has no receptions, and is 1 */
 void sums_of_refused_sets(void) {
     static const interleaver_set shape = SET(3, 4, 192, 1);
     size_t length[4] = {192, 192, 192, 192}, off[4] = {7, 8, 9, 10};
@@ -154,7 +154,7 @@ void sums_of_refused_sets(void) {
     unsigned i;
     for (i = 0; i < REFUSED; i++) {
         interleaver_set set = refused[i].set;
-        uint32_t number = refused[i].number;
+        uint32_t number = receives(set.profile) ? refused[i].number : 1;
         all(shape, ONE, 1, ONE, PRESENT);
         EXPECT(add_with(set, length) == number && same());
         hear(0, QUIET, 2);

@@ -1,7 +1,7 @@
 //! Interleavers for radio terminals, proved in Rattle: slices in, `Result` out.
 //!
 //! L is the list of input indices in output order, M its inverse: interleaving gives `out[t] = in[L(t)]`, deinterleaving
-//! `out[L(t)] = in[t]`. A call that is refused leaves every slice as it was.
+//! `out[L(t)] = in[t]`. Of profile 9 the indices of L and M are those of couples: see [`Set::wimax`]. A call that is refused leaves every slice as it was.
 //!
 //! ```
 //! use interleaver::{lte, Refusal, Set};
@@ -21,6 +21,9 @@
 //!
 //! let (f1, f2) = lte::factors(6144)?; // LTE's turbo interleaver, with the standard's own factors
 //! assert_eq!(Set::lte(6144, f1, f2)?.source(1)?, f1 + f2);
+//!
+//! let couples = Set::wimax(24, [5, 0, 0, 0])?; // WiMAX's turbo couples: 24 of them, 48 symbols
+//! assert_eq!((couples.source(1)?, couples.symbols()), (18, 48));
 //! # Ok::<(), Refusal>(())
 //! ```
 //!
@@ -34,6 +37,7 @@ mod refusal;
 mod streams;
 mod sums;
 pub mod wcdma;
+mod wimax;
 
 use refusal::answer_with;
 pub use refusal::Refusal;
@@ -41,8 +45,8 @@ pub use streams::{Atsc, Dvb, Stream};
 pub use sums::Running;
 
 /// A parameter set: a profile (1 IEEE 802.16 OFDM, 2 OFDMA, 3 IEEE 802.11a, 4 bench, 5 WCDMA turbo, 6 IEEE 802.11n at 20 MHz, 7 at 40 MHz, 8 LTE
-/// turbo), bits per carrier, the block's size N, for profiles 6 and 7 a spatial stream from 1 to 4, for profile 8 the factors f1 and f2. Each call
-/// tests it.
+/// turbo, 9 IEEE 802.16 turbo couples), bits per carrier, the block's size N, for profiles 6 and 7 a spatial stream from 1 to 4, for profile 8 the factors
+/// f1 and f2, for profile 9 the numbers P0 to P3. Each call tests it.
 #[derive(Clone, Copy, Debug, PartialEq, Eq)]
 #[repr(C)]
 pub struct Set {
@@ -71,7 +75,7 @@ impl Set {
         answer_with(number, || unsafe { raw::interleaver_fitting(self) })
     }
 
-    /// The set of stream 1, tested. It has no factors, so that profile 8 is refused: [`Set::lte`] makes sets of that.
+    /// The set of stream 1, tested. It has no factors, so that profiles 8 and 9 are refused: [`Set::lte`] and [`Set::wimax`] make sets of those.
     pub fn new(profile: u32, bits: u32, n: u32) -> Result<Set, Refusal> {
         let set = Set { profile, bits, n, stream: 1, factors: [0; 4] };
         set.test().map(|()| set)
@@ -88,20 +92,29 @@ impl Set {
         self.answer(unsafe { raw::interleaver_test(self) })
     }
 
-    /// N, the symbols of a block.
+    /// N: how many positions a list has, couples for profile 9.
     pub fn size(&self) -> usize {
         self.n as usize
     }
 
-    /// L(t): the input index that output `t` holds. For profile 5 it is found by walking up to it.
+    /// The symbols of a block: N, of profile 9 twice as many. It tests nothing.
+    pub fn symbols(&self) -> usize {
+        if self.profile == 9 {
+            2 * self.size()
+        } else {
+            self.size()
+        }
+    }
+
+    /// L(t): the input index that output `t` holds, of couples for profile 9. For profile 5 it is found by walking up to it.
     pub fn source(&self, t: u32) -> Result<u32, Refusal> {
         let mut address = 0;
         // SAFETY: numbers, and a number of this call's own.
         self.answer(unsafe { raw::interleaver_address_l(self, t, &mut address) }).map(|()| address)
     }
 
-    /// M(k): the output index that input `k` goes to. For profile 5 it is looked up in the whole list, which is walked first; for profile 8 it is found by
-    /// walking there, up to N steps.
+    /// M(k): the output index that input `k` goes to, of couples for profile 9. For profile 5 it is looked up in the whole list, which is walked first; for
+    /// profiles 8 and 9 it is found by walking there, up to N steps.
     pub fn target(&self, k: u32) -> Result<u32, Refusal> {
         let mut address = 0;
         // SAFETY: as above.
@@ -114,18 +127,18 @@ impl Set {
         Walk::sources(*self).fill(&mut list).map(|_| list)
     }
 
-    /// The whole list M. Profiles 5 and 8 are refused.
+    /// The whole list M. Profiles 5, 8 and 9 are refused.
     pub fn targets(&self) -> Result<Vec<u16>, Refusal> {
         let mut list = vec![0; self.size()];
         Walk::targets(*self).fill(&mut list).map(|_| list)
     }
 
-    block_call!(interleave, interleaver_interleave_bytes, u8, "Interleaves N bytes.");
-    block_call!(deinterleave, interleaver_deinterleave_bytes, u8, "Deinterleaves N bytes.");
-    block_call!(interleave_soft, interleaver_interleave_soft, f32, "Interleaves N soft values, each with its 32 bits.");
-    block_call!(deinterleave_soft, interleaver_deinterleave_soft, f32, "Deinterleaves N soft values, each with its 32 bits.");
-    block_call!(interleave_symbols, interleaver_interleave_symbols, u8, "Interleaves N symbols of `width` bytes each.", width);
-    block_call!(deinterleave_symbols, interleaver_deinterleave_symbols, u8, "Deinterleaves N symbols of `width` bytes each.", width);
+    block_call!(interleave, interleaver_interleave_bytes, u8, "Interleaves a block of bytes, [`Set::symbols`] of them.");
+    block_call!(deinterleave, interleaver_deinterleave_bytes, u8, "Deinterleaves a block of bytes, [`Set::symbols`] of them.");
+    block_call!(interleave_soft, interleaver_interleave_soft, f32, "Interleaves a block of soft values, each with its 32 bits.");
+    block_call!(deinterleave_soft, interleaver_deinterleave_soft, f32, "Deinterleaves a block of soft values, each with its 32 bits.");
+    block_call!(interleave_symbols, interleaver_interleave_symbols, u8, "Interleaves a block of symbols of `width` bytes each.", width);
+    block_call!(deinterleave_symbols, interleaver_deinterleave_symbols, u8, "Deinterleaves a block of symbols of `width` bytes each.", width);
 }
 
 /// A walk over the addresses of a set, slice by slice, without a list of its own.
@@ -152,7 +165,7 @@ impl Walk {
         Walk { set, cell: 0, back: false }
     }
 
-    /// The walk for M. Its steps are refused for profiles 5 and 8.
+    /// The walk for M. Its steps are refused for profiles 5, 8 and 9.
     pub fn targets(set: Set) -> Walk {
         Walk { set, cell: 0, back: true }
     }

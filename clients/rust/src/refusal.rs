@@ -52,17 +52,17 @@ macro_rules! refusals {
 }
 
 refusals! {
-    1 Profile "no such profile, or the walk for M of profile 5 or 8, or a plan file's profile above 5"
+    1 Profile "no such profile, or the walk for M of profile 5, 8 or 9, or receptions of profile 9, or a plan file's profile above 5"
     2 Bits "the bits aren't listed for the profile"
     3 Size { fits } "N isn't listed for that profile and those bits"
     4 Position "a position is N or more, or a plan is 0 or more than the file has"
-    5 Input "a block's input isn't N long, N times the width for symbols, or its presence bytes aren't N"
-    6 Output "a block's output isn't N long, N times the width for symbols, or sums or counts aren't N, or a feed's output isn't as long as its input, \
-              or a plan file's buffer isn't as long as the file"
+    5 Input "a block's input isn't as long as the block, N or of profile 9 2·N, times the width for symbols, or its presence bytes aren't N"
+    6 Output "a block's output isn't as long as the block, N or of profile 9 2·N, times the width for symbols, or sums or counts aren't N, \
+              or a feed's output isn't as long as its input, or a plan file's buffer isn't as long as the file"
     7 Store "a store isn't as long as its kind asks; never here, since a `Stream` has its own"
     9 Record "a walk's cell is past the cell total, or, never here, a byte stream's kind is unknown or its branch or a place is out of its range"
-    10 Shared "two positions would share an address, by the factors of profile 8"
-    11 Factors "f1 or f2 of profile 8 is 0, or not below N"
+    10 Shared "two positions would share an address, by the factors of profile 8 or the numbers of profile 9"
+    11 Factors "f1 or f2 of profile 8 is 0, or not below N, or one of P0 to P3 of profile 9 isn't below N"
     12 Form "a plan file isn't of the form, or its sets aren't 1 to 16, or it would pass 65,536 bytes"
     13 Finite "a present value, a stored sum whose count isn't 0, or the sum of these two isn't finite"
     14 Presence "a presence byte is above 1"

@@ -14,7 +14,8 @@ pub struct Running {
 impl Set {
     /// Adds a received block to what is stored: value `t`, in output order, at input index L(t). A presence byte is 1 where there is a value and 0
     /// where there is a blank, which changes nothing. The first value of a position is stored with its bits unchanged, count 1; a later one is
-    /// added with one rounding, and the count rises by one. Zero is a value. Before a first block every count is 0, and the sums may be any.
+    /// added with one rounding, and the count rises by one. Zero is a value. Before a first block every count is 0, and the sums may be any. Profile 9 is
+    /// refused with [`Refusal::Profile`].
     pub fn add_received(&self, received: &[f32], present: &[u8], sums: &mut [f32], counts: &mut [u16]) -> Result<(), Refusal> {
         // SAFETY: the slices are live and do not overlap, and the call keeps no pointer.
         self.answer(unsafe {
@@ -32,7 +33,7 @@ impl Set {
         })
     }
 
-    /// Reads a position, by input index: what it holds, or `None` for a blank.
+    /// Reads a position, by input index: what it holds, or `None` for a blank. Profile 9 is refused with [`Refusal::Profile`].
     pub fn read_sum(&self, sums: &[f32], counts: &[u16], position: u32) -> Result<Option<Running>, Refusal> {
         let mut held = Running { sum: 0.0, count: 0 };
         // SAFETY: both slices are live, and the numbers are this call's own.

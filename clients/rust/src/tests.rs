@@ -1,9 +1,10 @@
 // Every function of the wrapper over the archive: refusals, slices left alone, the bits of floats and sums, walks cut into parts.
-// spatial.rs has the streams of profiles 6 and 7, factors.rs the factors of profile 8, fitting.rs the size that refusal 3 carries,
-// streams.rs byte streams, plans.rs plan files, report.rs the padding report.
+// spatial.rs has the streams of profiles 6 and 7, factors.rs the factors of profile 8, couples.rs profile 9, fitting.rs the size that refusal 3
+// carries, streams.rs byte streams, plans.rs plan files, report.rs the padding report.
 use super::refusal::answer;
 use super::*;
 
+mod couples;
 mod factors;
 mod fitting;
 mod plans;
@@ -13,15 +14,32 @@ mod streams;
 
 fn sets() -> impl Iterator<Item = Set> {
     let listed = [(1, 1, 12), (1, 6, 1152), (2, 6, 576), (3, 4, 192), (3, 6, 288), (4, 6, 96), (5, 1, 40), (5, 1, 41), (5, 1, 2281), (5, 1, 5114)];
-    listed.into_iter().map(|(profile, bits, n)| Set::new(profile, bits, n).unwrap()).chain(spatial::sets()).chain(factors::sets())
+    let plain = listed.into_iter().map(|(profile, bits, n)| Set::new(profile, bits, n).unwrap());
+    plain.chain(spatial::sets()).chain(factors::sets()).chain(couples::sets())
+}
+
+// Those that have receptions.
+fn received() -> impl Iterator<Item = Set> {
+    sets().filter(|set| set.profile != 9)
+}
+
+// The input symbol of each output symbol. Of profile 9 the list is one of couples: an odd one is its B, its A.
+fn symbols(set: Set) -> Vec<usize> {
+    let list = set.sources().unwrap().into_iter().map(usize::from);
+    if set.profile == 9 {
+        list.flat_map(|c| [2 * c + c % 2, 2 * c + 1 - c % 2]).collect()
+    } else {
+        list.collect()
+    }
 }
 
 #[test]
 fn a_set_is_tested() {
-    for (number, (profile, bits, n)) in [(1, (0, 4, 192)), (1, (9, 1, 48)), (2, (2, 1, 96)), (3, (3, 4, 96)), (3, (5, 1, 39)), (3, (5, 1, 5115))] {
+    for (number, (profile, bits, n)) in [(1, (0, 4, 192)), (1, (10, 1, 48)), (2, (2, 1, 96)), (3, (3, 4, 96)), (3, (5, 1, 39)), (3, (5, 1, 5115))] {
         assert_eq!(Set::new(profile, bits, n).unwrap_err().number(), number);
     }
     assert_eq!([(1, 48), (4, 48), (1, 520)].map(|(bits, n)| Set::new(8, bits, n).unwrap_err().number()), [11, 2, 3]);
+    assert_eq!([(1, 48), (4, 48), (1, 50)].map(|(bits, n)| Set::new(9, bits, n).unwrap_err().number()), [10, 2, 3]);
     assert_eq!(Set::new(3, 3, 192).unwrap_err().to_string(), "refused with 2: the bits aren't listed for the profile");
 }
 
@@ -77,7 +95,7 @@ fn walks_cut_into_parts() {
         assert_eq!((walk, part), (past, [7; 61]));
         match set.targets() {
             Ok(back) => assert!(back.iter().enumerate().all(|(k, &m)| list[m as usize] as usize == k)),
-            Err(number) => assert!(number == Refusal::Profile && matches!(set.profile, 5 | 8)),
+            Err(number) => assert!(number == Refusal::Profile && matches!(set.profile, 5 | 8 | 9)),
         }
     }
 }
@@ -85,7 +103,7 @@ fn walks_cut_into_parts() {
 #[test]
 fn bytes_there_and_back() {
     for set in sets() {
-        let n = set.size();
+        let n = set.symbols();
         let src: Vec<u8> = (0..n).map(|i| (i * 31 + i / 251) as u8).collect();
         let (mut sent, mut received) = (vec![9; n], vec![8; n]);
         assert_eq!(set.interleave(&src[1..], &mut sent), Err(Refusal::Input));
@@ -93,7 +111,7 @@ fn bytes_there_and_back() {
         assert_eq!(set.interleave(&[], &mut []), Err(Refusal::Input));
         assert_eq!(sent, vec![9; n]);
         set.interleave(&src, &mut sent).unwrap();
-        assert!(set.sources().unwrap().iter().zip(&sent).all(|(&l, &x)| src[l as usize] == x));
+        assert!(symbols(set).iter().zip(&sent).all(|(&l, &x)| src[l] == x));
         set.deinterleave(&sent, &mut received).unwrap();
         assert_eq!(received, src);
     }
@@ -103,15 +121,15 @@ fn bytes_there_and_back() {
 fn symbols_of_every_width() {
     for set in sets() {
         for width in 0..10 {
-            let (w, size) = (width as usize, set.size() * width as usize);
+            let (w, size) = (width as usize, set.symbols() * width as usize);
             let src: Vec<u8> = (0..size).map(|i| (i * 31 + i / 251) as u8).collect();
             let (mut sent, mut received) = (vec![9; size], vec![8; size]);
             assert_eq!(set.interleave_symbols(width + 1, &src, &mut sent), Err(Refusal::Input));
             assert_eq!(set.deinterleave_symbols(width, &src, &mut [0]), Err(Refusal::Output));
             assert_eq!(sent, vec![9; size]);
             set.interleave_symbols(width, &src, &mut sent).unwrap();
-            for (t, &l) in set.sources().unwrap().iter().enumerate() {
-                assert_eq!(sent[t * w..][..w], src[l as usize * w..][..w]);
+            for (t, l) in symbols(set).into_iter().enumerate() {
+                assert_eq!(sent[t * w..][..w], src[l * w..][..w]);
             }
             set.deinterleave_symbols(width, &sent, &mut received).unwrap();
             assert_eq!(received, src);
@@ -122,7 +140,7 @@ fn symbols_of_every_width() {
 #[test]
 fn floats_keep_their_bits() {
     for set in sets() {
-        let n = set.size();
+        let n = set.symbols();
         let pattern = |i: u32| match i % 5 {
             0 => 0x7f80_0001 | i << 4,              // a signalling NaN, with a payload
             1 => 0xffc0_0000 | i,                   // a quiet one, with its sign
@@ -137,7 +155,7 @@ fn floats_keep_their_bits() {
         assert_eq!(set.deinterleave_soft(&src[1..], &mut sent), Err(Refusal::Input));
         assert_eq!(sent, vec![0.5; n]);
         set.interleave_soft(&src, &mut sent).unwrap();
-        assert!(set.sources().unwrap().iter().zip(&sent).all(|(&l, x)| bits[l as usize] == x.to_bits()));
+        assert!(symbols(set).iter().zip(&sent).all(|(&l, x)| bits[l] == x.to_bits()));
         set.deinterleave_soft(&sent, &mut received).unwrap();
         assert!(received.iter().zip(&bits).all(|(x, &b)| x.to_bits() == b));
     }
@@ -146,7 +164,7 @@ fn floats_keep_their_bits() {
 #[test]
 fn receptions_are_added_up() {
     let mut x = 1u32;
-    for set in sets() {
+    for set in received() {
         let (n, list) = (set.size(), set.sources().unwrap());
         let (mut sums, mut counts, mut eighths, mut heard) = (vec![f32::NAN; n], vec![0; n], vec![0; n], vec![0; n]);
         for _ in 0..3 {
@@ -203,7 +221,7 @@ fn a_sum_keeps_its_bits() {
 
 #[test]
 fn a_refused_reception_changes_nothing() {
-    for set in sets() {
+    for set in received() {
         let n = set.size();
         let (mut received, mut present) = (vec![1.0; n + 1], vec![1; n + 1]);
         let (mut sums, mut counts) = (vec![0.5; n + 1], vec![3; n + 1]);

@@ -8,7 +8,7 @@ use Rattle.families.specs.Symbols.{symbolsOf, blockL}
 use Rattle.tables.specs.Answer.{blockLines}
 use Rattle.movers.specs.Moves.{movedBy}
 
--- out[t] = in[L(t)] after interleaving, out[L(t)] = in[t] after deinterleaving, L being that of the block's symbols; where a line applies, what stood there. z is getD's default: an
--- accepted call never reads it
+-- out[t] = in[L(t)] after interleaving, out[L(t)] = in[t] after deinterleaving, L being that of the block's symbols; where a line applies, what stood
+-- there. z is getD's default: an accepted call never reads it
 unfoldable pub moved : {A : Type 0} → Way → Set → A → List A → List A → List A
 moved way s z src dst = after (blockLines s (symbolsOf s) (length src) (length dst)) (movedBy way (blockL s) (symbolsOf s) z src dst) dst

@@ -1,5 +1,6 @@
-// The cases of document 01 that no proved table states, two lists of request 4 and one of request 6 that are worked by hand, and some refusals, by the
-// public calls: each is printed with its outcome.
+// The cases of document 01 that no proved table states, two lists of request 4 and one of requests 6 and 12 each that are worked by hand, and some
+// refusals, by the public calls: each is printed with its outcome.
+mod couples;
 mod looks;
 mod nothing;
 mod squares;
@@ -62,7 +63,7 @@ fn tests() {
     test(1, 6, 1152);
     test(1, 6, 1153);
     test(0, 1, 48);
-    test(9, 1, 48);
+    test(10, 1, 48);
 }
 
 fn tell_written(slots: &[u16], written: u32) {
@@ -160,8 +161,7 @@ fn tell_moved(m: Moved) {
 }
 
 // A block of bytes 1 into one of bytes 0, so that every byte that is written shows.
-fn show_block(way: Way, src: &[u8], dst: &mut [u8]) {
-    let set = new_set(1, 1, 12);
+fn show_block(way: Way, set: Set, src: &[u8], dst: &mut [u8]) {
     words::either(way, b"interleave bytes,", b"deinterleave bytes,");
     words::set(set);
     words::number(b" input ", src.len() as u64);
@@ -171,21 +171,21 @@ fn show_block(way: Way, src: &[u8], dst: &mut [u8]) {
 }
 
 fn show_blocks(way: Way) {
+    let set = new_set(1, 1, 12);
     let short = [1u8; 11];
     let whole = [1u8; 12];
     let mut a = [0u8; 12];
     let mut b = [0u8; 11];
     let mut c = [0u8; 11];
     let mut d = [0u8; 12];
-    show_block(way, &short, &mut a);
-    show_block(way, &whole, &mut b);
-    show_block(way, &short, &mut c);
-    show_block(way, &whole, &mut d);
+    show_block(way, set, &short, &mut a);
+    show_block(way, set, &whole, &mut b);
+    show_block(way, set, &short, &mut c);
+    show_block(way, set, &whole, &mut d);
 }
 
 // The soft block moved from src to dst, which is then held against the input.
-fn show_soft(way: Way, input: &[f32; 192], src: &[f32; 192], dst: &mut [f32; 192]) {
-    let set = new_set(3, 4, 192);
+fn show_soft(way: Way, set: Set, input: &[f32; 192], src: &[f32; 192], dst: &mut [f32; 192]) {
     let m = blocks::soft::move_block(way, set, src, dst);
     words::either(
         way,
@@ -201,27 +201,33 @@ fn show_soft(way: Way, input: &[f32; 192], src: &[f32; 192], dst: &mut [f32; 192
 }
 
 // Zeros and minus zeros, interleaved and brought back.
-fn show_softs() {
+fn show_softs(set: Set) {
     let mut input = [0.0f32; 192];
     let mut sent = [0.0f32; 192];
     let mut back = [0.0f32; 192];
     words::last(b"soft block of 192, minus zeros ", looks::zeros(&mut input));
-    show_soft(Way::Interleaver, &input, &input, &mut sent);
-    show_soft(Way::Deinterleaver, &input, &sent, &mut back);
+    show_soft(Way::Interleaver, set, &input, &input, &mut sent);
+    show_soft(Way::Deinterleaver, set, &input, &sent, &mut back);
 }
 
 fn main() {
     tests();
     turned::test_streams();
     squares::test_factors();
+    couples::test_numbers();
     show_walks();
     turned::show_turned();
     show_ones();
     turned::show_ones();
     squares::show_squares();
+    couples::show_couples();
     show_blocks(Way::Interleaver);
     show_blocks(Way::Deinterleaver);
-    show_softs();
+    couples::show_blocks(Way::Interleaver);
+    couples::show_blocks(Way::Deinterleaver);
+    couples::show_symbols();
+    show_softs(new_set(3, 4, 192));
+    couples::show_softs();
     nothing::feeds(Stream::DVB, Way::Interleaver);
     nothing::feeds(Stream::DVB, Way::Deinterleaver);
     nothing::feeds(Stream::ATSC, Way::Interleaver);

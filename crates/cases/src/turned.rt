@@ -19,7 +19,7 @@ pub fn test_streams() {
     test_set(stream_set(3, 1, 48, 0));
     test_set(stream_set(3, 1, 48, 2));
     test_set(stream_set(5, 1, 40, 2));
-    test_set(stream_set(9, 1, 48, 2));
+    test_set(stream_set(10, 1, 48, 2));
 }
 
 fn walk_eight(way: Way, set: Set, cell: u32) {

@@ -1,6 +1,7 @@
 // What is printed: plain words and numbers.
 use laws::Way;
 use libc::STDOUT_FILENO;
+use sets::Factors;
 use sets::Refusal;
 use sets::Set;
 
@@ -27,7 +28,35 @@ pub fn either(way: Way, there: &[u8], again: &[u8]) {
     }
 }
 
-// A parameter set, in the middle of a line: the stream where it is not 1, f1 and f2 where they are not 0.
+// f1 and f2 where they are not 0, and the numbers behind them likewise.
+fn pair(f: Factors) {
+    if (f.first != 0) | (f.second != 0) {
+        number(b" f1 ", f.first as u64);
+        number(b" f2 ", f.second as u64);
+    }
+    if (f.third != 0) | (f.fourth != 0) {
+        number(b" then ", f.third as u64);
+        number(b" and ", f.fourth as u64);
+    }
+}
+
+fn four(f: Factors) {
+    number(b" P0 ", f.first as u64);
+    number(b" P1 ", f.second as u64);
+    number(b" P2 ", f.third as u64);
+    number(b" P3 ", f.fourth as u64);
+}
+
+// The numbers beside the size and the stream, as the profile reads them.
+fn factors(s: Set) {
+    if s.profile == 9 {
+        four(s.factors);
+    } else {
+        pair(s.factors);
+    }
+}
+
+// A parameter set, in the middle of a line: the stream where it is not 1.
 pub fn set(s: Set) {
     number(b" profile ", s.profile as u64);
     number(b" bits ", s.bits as u64);
@@ -35,10 +64,7 @@ pub fn set(s: Set) {
     if s.stream != 1 {
         number(b" stream ", s.stream as u64);
     }
-    if (s.factors.first != 0) | (s.factors.second != 0) {
-        number(b" f1 ", s.factors.first as u64);
-        number(b" f2 ", s.factors.second as u64);
-    }
+    factors(s);
 }
 
 pub fn refused(x: Refusal) {
@@ -62,4 +88,20 @@ pub fn addresses(slots: &[u16], n: u32) {
         }
         i += 1;
     }
+}
+
+// One symbol of a block.
+fn symbol(b: u8) {
+    number(b" ", b as u64);
+}
+
+// All symbols of a block, as the last of a line.
+pub fn symbols(block: &[u8]) {
+    text(b"; symbols");
+    let mut i = 0;
+    while i < block.len() {
+        symbol(block[i]);
+        i += 1;
+    }
+    text(b"\n");
 }

@@ -33,7 +33,7 @@ lentLines s b h =
 abbrev pub coupledLine : Set → Line
 coupledLine s = line 1 (isCoupled (familyOf s))
 
--- adding a block: 1, 2, 3, 16, 11, 10, and these
+-- adding a block: 1 of couples, then 1, 2, 3, 16, 11, 10, and these
 unfoldable pub addLines : Set → Reception → Kept → List Line
 addLines s b h = coupledLine s ∷ (setLines s ++ lentLines s b h)
 
@@ -58,7 +58,7 @@ pub data Standing : Type 0 where
 abbrev pub toldOf : Running → Standing
 toldOf r = cond (eqb (r .count) 0) blank (soft r)
 
--- reading position k: 1, 2, 3, 16, 11, 10, 4 a position that is N or more, 6 the sums or the counts aren't N
+-- reading position k: 1 of couples, then 1, 2, 3, 16, 11, 10, 4 a position that is N or more, 6 the sums or the counts aren't N
 unfoldable pub readLines : Set → Kept → ℕ → List Line
 readLines s h k = coupledLine s ∷ (setLines s ++ (line 4 (leb (s .n) k) ∷ line 6 (not (bothLong (s .n) (h .sums) (h .counts))) ∷ []))
 

@@ -4,7 +4,6 @@ use mathlib.Core.Bool.{Bool, true, false, not}
 use mathlib.Core.List.{List, _∷_, _++_, append-assoc}
 use mathlib.Core.Logic.{_≢_}
 use mathlib.Core.Path.{_≡_, sym, ap, ap₂, _∙_}
-use native.Mathlib.Nat.{mul-one}
 use native.Mathlib.Omega.{arith}
 use lib.Ieee.{Float, nan}
 use lib.ListN.{length, getD}
@@ -24,7 +23,7 @@ use Rattle.families.specs.Symbols.{symbolsOf, symbols-plain, block-plain}
 use Rattle.tables.specs.declared.Moved.{Moved}
 use Rattle.tables.specs.declared.Moved.the-variants.{Done, Refused}
 use Rattle.tables.specs.Answer.{lengthLines, blockLines, movedOf, sayMoved}
-use Rattle.tables.specs.Passed.{Judged, Tabled, block-served}
+use Rattle.tables.specs.Passed.{Judged, Tabled, block-served, answer-one}
 use Rattle.positions.specs.declared.Running.{Running}
 use Rattle.positions.specs.Heard.{Reception, Kept, held, heard}
 use Rattle.adders.specs.Any.{any, any-none}
@@ -84,7 +83,7 @@ module _ (s : Set) (b : Reception) (h : Kept) where
   module _ (c : isCoupled (familyOf s) ≡ false) where
     pub said-so : {i o : ℕ} {x : Outcome Refusal (Unit {0})} → i ≡ inputOf → o ≡ outputOf → x ≡ movedOf s (symbolsOf s * 1) i o
         → x ≡ movedOf s (s .n) inputOf outputOf
-    said-so {i} {o} p q e = e ∙ ap (λ (n : ℕ). movedOf s n i o) (mul-one (symbolsOf s) ∙ symbols-plain s c) ∙ ap₂ (movedOf s (s .n)) p q
+    said-so {i} {o} p q e = e ∙ answer-one s i o ∙ ap (λ (n : ℕ). movedOf s n i o) (symbols-plain s c) ∙ ap₂ (movedOf s (s .n)) p q
 
     -- the block is not taken: so is the call refused, and all is as it was
     module _ {x : Refusal} (e : refused x ≡ movedOf s (s .n) inputOf outputOf) where

@@ -1,6 +1,6 @@
--- The refusals of the two calls in the sentences of change request 2 and in its order, with 1 also for profile 9, by request 12, 16 of request 4 and 11 and 10 of requests 6
--- and 12 after 3, and without 8, by request 7: 1, 2, 3, 16, 11, 10, 5, 6, 14, 13, 15 for a block that is added, 1, 2, 3, 16, 11, 10, 4, 6 for a position that is read. A number is said
--- exactly when its sentence is the first that holds, and then all that is stored is what it was.
+-- The refusals of the two calls in the sentences of change request 2 and in its order, with 1 also for profile 9, by request 12, 16 of request 4 and 11
+-- and 10 of requests 6 and 12 after 3, and without 8, by request 7: 1, 2, 3, 16, 11, 10, 5, 6, 14, 13, 15 for a block that is added, 1, 2, 3, 16, 11, 10,
+-- 4, 6 for a position that is read. A number is said exactly when its sentence is the first that holds, and then all that is stored is what it was.
 use Prim.Native.Nat.{ℕ, _+_, _≤_, _<_}
 use mathlib.Core.Bool.{Bool, true, false, not, _&&_, true≢false}
 use mathlib.Core.List.{List, [], _∷_, _++_}
@@ -13,7 +13,7 @@ use lib.Ieee.{nan}
 use lib.ListN.{length, getD}
 use borrow.Author.Tests.{eqb-true, eqb-false, ltb-true, ltb-false, not-false, not-true, eq-eqb, lt-leb}
 use Rattle.laws.specs.Outcome.{done, refused, Line, line, clear-first}
-use Rattle.laws.specs.Members.{both}
+use Rattle.laws.specs.Members.{both, one-fails}
 use Rattle.laws.specs.Sentences.{Sentence, sentence, FirstTrue, Told, none, more, told-reach, said-exactly, kept-alone}
 use Rattle.laws.specs.Told.{NoneTrue, told-clear, told-join}
 use Rattle.sets.specs.declared.Set.{Set}
@@ -59,11 +59,7 @@ told-long : {C : Type 0} {ls : List Line} {ps : List Sentence} (k n x y : ℕ)
 told-long k n x y t = more {p = (x ≢ n) ⊎ (y ≢ n)} (λ c e. off e) (λ c e h. on e h) t
   where
     off : not (eqb x n && eqb y n) ≡ true → (x ≢ n) ⊎ (y ≢ n)
-    off e = go (eqb x n) refl (not-true (eqb x n && eqb y n) e)
-      where
-        go : (a : Bool) → eqb x n ≡ a → (a && eqb y n) ≡ false → (x ≢ n) ⊎ (y ≢ n)
-        go true q e = inr (eqb-false y n e)
-        go false q e = inl (eqb-false x n q)
+    off e = one-fails (eqb x n) (eqb y n) (eqb-false x n) (eqb-false y n) (not-true (eqb x n && eqb y n) e)
 
     on : not (eqb x n && eqb y n) ≡ false → (x ≢ n) ⊎ (y ≢ n) → ⊥
     on e (inl z) = z (eqb-true x n (both (eqb x n) (eqb y n) (not-false (eqb x n && eqb y n) e) .0))

@@ -85,3 +85,38 @@ pub fn last_line(n: u64) {
     number(b"differences ", n);
     io::write_all(STDOUT_FILENO, b"\n");
 }
+
+// How many sets were tried, how many of them were accepted, and at how many the test gave another number than trying.
+pub struct Tried {
+    pub sets: u64,
+    pub accepted: u64,
+    pub differences: u64,
+}
+
+impl Tried {
+    pub fn none() -> Self {
+        Tried {
+            sets: 0,
+            accepted: 0,
+            differences: 0,
+        }
+    }
+
+    // One more set.
+    pub fn with(self, got: u32, right: u32) -> Self {
+        Tried {
+            sets: sum(self.sets, 1),
+            accepted: sum(self.accepted, if got == 0 { 1 } else { 0 }),
+            differences: sum(self.differences, if got == right { 0 } else { 1 }),
+        }
+    }
+}
+
+// A line for the test of sets.
+pub fn tried_line(title: &[u8], t: Tried) {
+    io::write_all(STDOUT_FILENO, title);
+    number(b": sets ", t.sets);
+    number(b" accepted ", t.accepted);
+    number(b" differences ", t.differences);
+    io::write_all(STDOUT_FILENO, b"\n");
+}

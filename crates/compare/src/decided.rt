@@ -1,31 +1,17 @@
 // The test of f1 and f2 held against trying all positions: every K of profile 8 up to 128, with every f1 and f2 from 0 to K.
+use crate::chosen::four;
 use crate::chosen::quadratic_set;
-use crate::count::number;
-use crate::num::sum;
-use libc::STDOUT_FILENO;
+use crate::chosen::verdict;
+use crate::count;
+use crate::count::Tried;
 use second::squares::shares;
-use sets::Factors;
-use sets::Verdict;
 
-// How many sets were tried, how many of them were accepted, and at how many the number was another than trying gives.
-struct Tried {
-    sets: u64,
-    accepted: u64,
-    differences: u64,
-}
-
-// The number that the test of a set gives, or 0.
-fn verdict(k: u32, first: u32, second: u32) -> u32 {
-    let factors = Factors {
-        first,
-        second,
-        third: 0,
-        fourth: 0,
-    };
-    match sets::test(quadratic_set(k, factors)) {
-        Verdict::Accepted => 0,
-        Verdict::Refused(x) => x.number,
+// The number that the test of a set gives, with f1 and f2 exchanged where that is wrong on purpose.
+fn given(k: u32, f1: u32, f2: u32, exchanged: bool) -> u32 {
+    if exchanged {
+        return verdict(quadratic_set(k, four(f2, f1, 0, 0)));
     }
+    verdict(quadratic_set(k, four(f1, f2, 0, 0)))
 }
 
 // The number that trying gives: 11 for a number that is 0 or not below K, 10 where two positions share an address.
@@ -39,22 +25,12 @@ fn expected(k: u32, f1: u32, f2: u32, seen: &mut [u16]) -> u32 {
     0
 }
 
-// One set; f1 and f2 are exchanged for the test, where that is wrong on purpose. A number past K is passed over.
+// One set. A number past K is passed over.
 fn one(k: u32, f1: u32, f2: u32, exchanged: bool, seen: &mut [u16], so_far: Tried) -> Tried {
     if (f1 > k) | (f2 > k) {
         return so_far;
     }
-    let got = if exchanged {
-        verdict(k, f2, f1)
-    } else {
-        verdict(k, f1, f2)
-    };
-    let right = expected(k, f1, f2, seen);
-    Tried {
-        sets: sum(so_far.sets, 1),
-        accepted: sum(so_far.accepted, if got == 0 { 1 } else { 0 }),
-        differences: sum(so_far.differences, if got == right { 0 } else { 1 }),
-    }
+    so_far.with(given(k, f1, f2, exchanged), expected(k, f1, f2, seen))
 }
 
 // Every f1 and f2 with a K.
@@ -70,11 +46,7 @@ fn each_pair(k: u32, exchanged: bool, seen: &mut [u16], so_far: Tried) -> Tried 
 
 // K 40 to 128 by 8.
 fn each(exchanged: bool, seen: &mut [u16]) -> Tried {
-    let mut t = Tried {
-        sets: 0,
-        accepted: 0,
-        differences: 0,
-    };
+    let mut t = Tried::none();
     let mut j = 5;
     while j <= 16 {
         t = each_pair(j * 8, exchanged, seen, t);
@@ -87,10 +59,6 @@ fn each(exchanged: bool, seen: &mut [u16]) -> Tried {
 pub fn show(title: &[u8], exchanged: bool) -> u64 {
     let mut seen = [0u16; 128];
     let t = each(exchanged, &mut seen);
-    io::write_all(STDOUT_FILENO, title);
-    number(b": sets ", t.sets);
-    number(b" accepted ", t.accepted);
-    number(b" differences ", t.differences);
-    io::write_all(STDOUT_FILENO, b"\n");
+    count::tried_line(title, t);
     t.differences
 }

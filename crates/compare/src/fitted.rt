@@ -1,4 +1,4 @@
-// The size that refusal 3 carries held against going through all sizes: of profiles 0 to 9 and bits 0 to 7, from 6,200 down to 0, so that the last one
+// The size that refusal 3 carries held against going through all sizes: of profiles 0 to 10 and bits 0 to 7, from 6,200 down to 0, so that the last one
 // that was listed is the least not below. Going up, it is the greatest below, which is wrong on purpose.
 use crate::count::number;
 use crate::num::sum;
@@ -94,7 +94,7 @@ fn each(up: bool) -> Run {
         differences: 0,
     };
     let mut i = 0;
-    while i < 80 {
+    while i < 88 {
         r = sizes(i / 8, i % 8, up, r);
         i += 1;
     }

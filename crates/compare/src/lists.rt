@@ -1,8 +1,7 @@
-// Walks against lists of the second computation: every set of a choice, whole and in slices, and lists that are wrong on purpose.
+// Walks against lists of the second computation: every set of a choice, whole and in slices.
 use crate::chosen::accepted;
 use crate::chosen::set_at;
 use crate::chosen::sets_in;
-use crate::chosen::turbo_set;
 use crate::count;
 use crate::count::Count;
 use crate::num::sum;
@@ -12,13 +11,16 @@ use second::Whole;
 use second::num::move_on;
 use sets::Set;
 
-// How a list is made: right; or wrong on purpose, one place off, without the exchange at full rectangles, with no stream turned, or with t for t².
+// How a list is made: right; or wrong on purpose, one place off, without the exchange at full rectangles, with no stream turned, with t for t², with
+// P1 in the third case, or with the even-numbered couples swapped.
 pub enum Made {
     Right,
     Off,
     Unexchanged,
     Unturned,
     Unsquared,
+    Misprinted,
+    SwappedEven,
 }
 
 fn one_off(way: Way, set: Set, list: &mut [u16]) -> Whole {
@@ -35,6 +37,22 @@ pub fn list_of(way: Way, set: Set, made: Made, list: &mut [u16]) -> Whole {
         Made::Unexchanged => second::unexchanged(set, list),
         Made::Unturned => second::unturned(way, set, list),
         Made::Unsquared => second::squares::unsquared(set, list),
+        Made::Misprinted => second::couples::misprinted(set, list),
+        Made::SwappedEven => second::list_of(way, set, list),
+    }
+}
+
+fn symbols_off(set: Set, list: &mut [u16]) {
+    second::symbols_of(set, list);
+    move_on(list);
+}
+
+// The same over symbols, for a block.
+pub fn symbols_of(set: Set, made: Made, list: &mut [u16]) {
+    match made {
+        Made::Off => symbols_off(set, list),
+        Made::SwappedEven => second::couples::swapped_even(set, list),
+        _ => second::symbols_of(set, list),
     }
 }
 
@@ -65,7 +83,7 @@ fn hold(way: Way, w: Whole, size: usize, list: &[u16], slice: &mut [u16]) -> Cou
 }
 
 // One set, in slices of a size, or whole for size 0. A refused set is passed over.
-fn walk_one(
+pub fn walk_one(
     way: Way,
     set: Set,
     size: usize,
@@ -80,7 +98,7 @@ fn walk_one(
     counted(made, hold(way, w, size, list, slice))
 }
 
-fn walk_each(
+pub fn walk_each(
     way: Way,
     choice: u32,
     size: usize,
@@ -157,47 +175,6 @@ pub fn every_spatial_m() -> u64 {
     )
 }
 
-// K 40 against its list one place off: what is counted here is in no total.
-pub fn wrong_walk() {
-    let mut list = [0u16; 12288];
-    let mut slice = [0u16; 6144];
-    let c = walk_one(
-        Way::Interleaver,
-        turbo_set(40),
-        0,
-        Made::Off,
-        &mut list,
-        &mut slice,
-    );
-    count::walks_line(b"wrong on purpose, L of K 40", c);
-}
-
-// Every K against its list without the exchange: the sizes that it touches, each at two addresses. In no total either.
-pub fn wrong_exchange() {
-    let mut list = [0u16; 12288];
-    let mut slice = [0u16; 6144];
-    let c = walk_each(
-        Way::Interleaver,
-        1,
-        0,
-        Made::Unexchanged,
-        &mut list,
-        &mut slice,
-    );
-    count::walks_line(
-        b"wrong on purpose, L of profile 5 without the exchange, the sizes that it touches",
-        c,
-    );
-}
-
-// L and M of profiles 6 and 7 against the lists with no stream turned: the sets that are. In no total either.
-pub fn wrong_turn(way: Way, title: &[u8]) {
-    let mut list = [0u16; 12288];
-    let mut slice = [0u16; 6144];
-    let c = walk_each(way, 3, 0, Made::Unturned, &mut list, &mut slice);
-    count::walks_line(title, c);
-}
-
 // The sizes of LTE with its own factors, whole and in slices.
 pub fn every_lte() -> u64 {
     let a = every(
@@ -212,17 +189,12 @@ pub fn every_lte() -> u64 {
     )
 }
 
-// L of profile 8 against its lists with t for t². In no total either.
-pub fn wrong_square() {
-    let mut list = [0u16; 12288];
-    let mut slice = [0u16; 6144];
-    let c = walk_each(
-        Way::Interleaver,
-        4,
-        0,
-        Made::Unsquared,
-        &mut list,
-        &mut slice,
-    );
-    count::walks_line(b"wrong on purpose, L of profile 8 with t for its square", c);
+// Profile 9 with many numbers, and each of its sizes, whole and in slices.
+pub fn every_couple() -> u64 {
+    let way = Way::Interleaver;
+    let a = walks_of(way, b"L of profile 9, N 24 to 64, whole", 5, 0);
+    let b = walks_of(way, b"L of profile 9, N 24 to 64, slices of 7", 5, 7);
+    let c = walks_of(way, b"L of profile 9, every N, whole", 6, 0);
+    let d = walks_of(way, b"L of profile 9, every N, slices of 7", 6, 7);
+    sum(sum(a, b), sum(c, d))
 }

@@ -1,4 +1,4 @@
-// Whole blocks of bytes, and single addresses, held against a list of the second computation.
+// Whole blocks of bytes, held against a list of the second computation over symbols, and single addresses, against one over what they count.
 use crate::count::Count;
 use crate::num::differ;
 use crate::num::least;
@@ -47,7 +47,7 @@ fn byte(s: &[u8], i: usize) -> usize {
     0
 }
 
-// How many outputs t are not the input L(t).
+// How many outputs t are not the input that the list has at t.
 fn wrong_outputs(list: &[u16], src: &[u8], dst: &[u8]) -> u64 {
     let mut wrong: u64 = 0;
     let mut t = 0;
@@ -128,7 +128,7 @@ pub fn block_of(
     dst: &mut [u8],
     again: &mut [u8],
 ) -> Count {
-    let n = set.n as usize;
+    let n = tables::symbols_of(set);
     if least(src.len(), least(dst.len(), again.len())) < n {
         return Count::wrong(1);
     }

@@ -57,7 +57,7 @@ module _ (c : Couples) (j : ℕ) where
 pub product-fits : {c : Couples} {j : ℕ} → Block c j → c .p0 * j ≤ 67108864
 product-fits b =
     let s = b .numbered in
-    mul-le-mul {n₂ = 8192} {m₂ = 8192} (omega (arith, s .p0-in, s .small)) (omega (arith, b .cell-in, s .small))
+    mul-le-mul {n₂ = 8192} {m₂ = 8192} (omega (arith, s .below .p0-in, s .small)) (omega (arith, b .cell-in, s .small))
 
 -- what the five numbers are at output j
 pub record SpotAt (c : Couples) (j : ℕ) (at : Spot) : Type 0 where

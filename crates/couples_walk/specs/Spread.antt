@@ -14,7 +14,7 @@ use Rattle.laws.specs.Loop.{by}
 use Rattle.couples.specs.Symbols.{symbolL, symbol-at}
 
 -- the first n entries are couples, and there is room for their symbols
-pub record Coupled (n : ℕ) (table : List ℕ) : Type 0 where
+pub record OfCouples (n : ℕ) (table : List ℕ) : Type 0 where
   pub room : 2 * n ≤ length table
   pub small : n ≤ 32768
   pub below : (k : ℕ) → k < n → by table k < n
@@ -42,13 +42,13 @@ module _ (l : ℕ → ℕ) (j : ℕ) {c odd : ℕ} (e : c ≡ l j) (o : odd ≡ 
 
 -- the loop, back to output j: what lies before it is as it was
 pub record Spreading (n : ℕ) (old new : List ℕ) (j : ℕ) : Type 0 where
-  pub coupled : Coupled n old
+  pub coupled : OfCouples n old
   pub far : j ≤ n
   pub long : length new ≡ length old
   pub before : (t : ℕ) → t < 2 * j → by new t ≡ by old t
   pub behind : (t : ℕ) → 2 * j ≤ t → t < 2 * n → by new t ≡ symbolL (by old) t
 
-pub spread-first : {n : ℕ} {old : List ℕ} → Coupled n old → Spreading n old old n
+pub spread-first : {n : ℕ} {old : List ℕ} → OfCouples n old → Spreading n old old n
 spread-first p = record { coupled = p; far = omega arith; long = refl; before = λ t h. refl; behind = λ t h k. absurd (omega arith) }
 
 pub spread-all : {n j : ℕ} {old new : List ℕ} → Spreading n old new j → j ≡ 0 → Spread n old new

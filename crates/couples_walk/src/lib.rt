@@ -1,6 +1,6 @@
 // The walk of the couples of IEEE 802.16: the walk for P from any cell, one couple either way, and the table of couples spread to that of their
-// symbols. A couple's place and the four steps from there on are worked out once a call, by products and remainders; from there on each step is one
-// sum, which takes N off at most once. The public functions are leaf functions: the crate above them tests a set first, and shows what they require.
+// symbols. P at the cell and the four steps behind it are worked out once a call, by division; after that each step is one sum, which takes N off at
+// most once. The public functions are leaf functions: the crate above them tests a set first, and shows what they require.
 pub mod symbols; // symbols.rt: from couples to symbols
 
 use couples::Couples;

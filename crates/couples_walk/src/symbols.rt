@@ -1,7 +1,7 @@
 // From couples to symbols: the table of a block, made in place of the walk of its couples.
 ghost use mathlib.Core.Path.{_≡_};
 ghost use Prim.Native.Nat.{_%_, _<_};
-ghost use Rattle.couples_walk.specs.Spread.{Coupled, Spread};
+ghost use Rattle.couples_walk.specs.Spread.{OfCouples, Spread};
 
 // What 2 leaves of x.
 fn parity(x: usize) -> usize
@@ -13,7 +13,7 @@ fn parity(x: usize) -> usize
 // Entry j, couple c, becomes entries 2·j and 2·j + 1: the symbols 2·c and 2·c + 1, or 2·c + 1 and 2·c where c is odd. From the back, so that nothing
 // is read after it was written over.
 pub fn spread(n: usize, table: &mut [u16])
-    requires { ⌜ Coupled n (now table) ⌝ }
+    requires { ⌜ OfCouples n (now table) ⌝ }
     ensures { λ _. ⌜ Spread n (now (table .entry)) (now (table .exit)) ⌝ }
 {
     let mut j = n;

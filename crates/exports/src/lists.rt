@@ -80,7 +80,7 @@ pub extern "C" fn interleaver_walk_l(
     lent::lists::walk_on(Way::Interleaver, set, cell, out, written, cells)
 }
 
-// The walk for M. Refusals 1, also for profiles 5 and 8, 2, 3, 16, 9.
+// The walk for M. Refusals 1, also for profiles 5, 8 and 9, 2, 3, 16, 11, 10, 9.
 #[no_mangle]
 pub extern "C" fn interleaver_walk_m(
     set: &[u32; SET],

@@ -6,7 +6,7 @@ ghost use Rattle.combine.specs.Answer.{addedOf, sumsOf, countsOf};
 ghost use Rattle.flat.specs.Flat.{setOf, numberOf};
 ghost use Rattle.lent_sums.specs.Sums.{lentReading, sumOut, countOut};
 
-// Adds a received block to what is stored. Refusals 1, 2, 3, 16, 11, 10, 5, 6, 14, 13, 15.
+// Adds a received block to what is stored. Refusals 1, also of profile 9, 2, 3, 16, 11, 10, 5, 6, 14, 13, 15.
 #[no_mangle]
 pub extern "C" fn interleaver_add_received(
     set: &[u32; SET],
@@ -25,7 +25,8 @@ pub extern "C" fn interleaver_add_received(
     lent_sums::add(set, received, present, sums, counts)
 }
 
-// Reads a position, by input index: its sum and its count; a blank is the count 0, and leaves the sum as it was. Refusals 1, 2, 3, 16, 11, 10, 4, 6.
+// Reads a position, by input index: its sum and its count; a blank is the count 0, and leaves the sum as it was. Refusals 1, also of profile 9, 2, 3,
+// 16, 11, 10, 4, 6.
 #[no_mangle]
 pub extern "C" fn interleaver_read_sum(
     set: &[u32; SET],

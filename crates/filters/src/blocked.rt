@@ -5,6 +5,7 @@ use super::write_out;
 use laws::Way;
 use sets::Set;
 use sets::Verdict;
+use tables::LARGE;
 use tables::Moved;
 ghost use Prim.Native.Nat.{_≤_, _+_};
 ghost use lib.ListN.{length};
@@ -49,9 +50,15 @@ fn turns(way: Way, set: Set, width: u32, src: &mut [u8], dst: &mut [u8]) {
     }
 }
 
-// The blocks in parts of the two rooms that have a block's length: at most 6,144 symbols of 8 bytes, for which there is room.
+// The blocks in parts of the two rooms that have a block's length: at most 6,144 symbols of 8 bytes, for which there is room. Of profile 9 they are
+// twice N, which is at most 4,800.
 fn in_parts(way: Way, set: Set, width: u32, src: &mut [u8], dst: &mut [u8]) {
-    let n = set.n as usize * width as usize;
+    let symbols = tables::symbols_of(set);
+    // (never so, as the set was accepted: asked for the product)
+    if symbols > LARGE {
+        return;
+    }
+    let n = symbols * width as usize;
     if n > src.len() {
         return;
     }

@@ -1,3 +1,4 @@
 pub mod Fitting
 pub mod NextSize
 pub mod Tiers
+pub mod Fours

@@ -7,6 +7,14 @@ use numbers::Number;
 use sets::Factors;
 use sets::Set;
 
+// P0 to P3 of the request's own block of 24 couples. Of other sizes none are kept.
+const OF_24: Factors = Factors {
+    first: 5,
+    second: 0,
+    third: 0,
+    fourth: 0,
+};
+
 // A parameter set, or none, which has been told.
 pub enum SetAsked {
     Given(Set),
@@ -75,8 +83,8 @@ fn standard(n: u32) -> Factors {
     }
 }
 
-// The factors that are named, f1 and f2 together; or, where neither is, LTE's own for the size.
-fn factors(line: &[u8], n: u32) -> FactorsAsked {
+// f1 and f2 that are named, together; or, where neither is, LTE's own for the size.
+fn pair(line: &[u8], n: u32) -> FactorsAsked {
     if !(names::has(line, b"f1") | names::has(line, b"f2")) {
         return FactorsAsked::Given(standard(n));
     }
@@ -98,6 +106,79 @@ fn factors(line: &[u8], n: u32) -> FactorsAsked {
     })
 }
 
+// P0 to P3 where none is named: those that profile 9 has for N 24, and none for a profile that does not read them.
+fn own_four(set: Set) -> FactorsAsked {
+    if !sets::is_coupled(set) {
+        return FactorsAsked::Given(sets::NO_FACTORS);
+    }
+    if set.n != 24 {
+        told::needs_four();
+        return FactorsAsked::Wrong;
+    }
+    FactorsAsked::Given(OF_24)
+}
+
+// Whether some of P0 to P3 is named, and whether all are.
+fn has_any(line: &[u8]) -> bool {
+    (names::has(line, b"p0") | names::has(line, b"p1"))
+        | (names::has(line, b"p2") | names::has(line, b"p3"))
+}
+
+fn has_all(line: &[u8]) -> bool {
+    (names::has(line, b"p0") & names::has(line, b"p1"))
+        & (names::has(line, b"p2") & names::has(line, b"p3"))
+}
+
+fn named_four(line: &[u8]) -> FactorsAsked {
+    let Number::Value(first) = names::number(line, b"p0", 0) else {
+        return FactorsAsked::Wrong;
+    };
+    let Number::Value(second) = names::number(line, b"p1", 0) else {
+        return FactorsAsked::Wrong;
+    };
+    let Number::Value(third) = names::number(line, b"p2", 0) else {
+        return FactorsAsked::Wrong;
+    };
+    let Number::Value(fourth) = names::number(line, b"p3", 0) else {
+        return FactorsAsked::Wrong;
+    };
+    FactorsAsked::Given(Factors {
+        first,
+        second,
+        third,
+        fourth,
+    })
+}
+
+// P0 to P3 that are named, all four; or, where none is, those that are known.
+fn four(line: &[u8], set: Set) -> FactorsAsked {
+    if !has_any(line) {
+        return own_four(set);
+    }
+    if !has_all(line) {
+        told::some_of_four();
+        return FactorsAsked::Wrong;
+    }
+    named_four(line)
+}
+
+// A set that has f1 and f2, and P0 to P3 in their place where its profile reads those.
+fn with_four(line: &[u8], set: Set) -> SetAsked {
+    let FactorsAsked::Given(factors) = four(line, set) else {
+        return SetAsked::Wrong;
+    };
+    if !sets::is_coupled(set) {
+        return SetAsked::Given(set);
+    }
+    SetAsked::Given(Set {
+        profile: set.profile,
+        bits: set.bits,
+        n: set.n,
+        stream: set.stream,
+        factors,
+    })
+}
+
 // PROFILE, which is word 1, BITS, N and the numbers that have names.
 pub fn set(line: &[u8]) -> SetAsked {
     let w = word(line, 1);
@@ -116,16 +197,19 @@ pub fn set(line: &[u8]) -> SetAsked {
     let Number::Value(stream) = names::number(line, b"stream", 1) else {
         return SetAsked::Wrong;
     };
-    let FactorsAsked::Given(factors) = factors(line, n) else {
+    let FactorsAsked::Given(factors) = pair(line, n) else {
         return SetAsked::Wrong;
     };
-    SetAsked::Given(Set {
-        profile,
-        bits,
-        n,
-        stream,
-        factors,
-    })
+    with_four(
+        line,
+        Set {
+            profile,
+            bits,
+            n,
+            stream,
+            factors,
+        },
+    )
 }
 
 // AT, which is word i, and LENGTH, which is word k.

@@ -7,8 +7,14 @@ use named::name;
 use named::value;
 use numbers::Number;
 
+// A name of profile 9's four numbers.
+fn is_of_four(name: &[u8]) -> bool {
+    (same(name, b"p0") | same(name, b"p1")) | (same(name, b"p2") | same(name, b"p3"))
+}
+
 fn is_known(word: &[u8]) -> bool {
-    same(name(word), b"stream") | (same(name(word), b"f1") | same(name(word), b"f2"))
+    let n = name(word);
+    same(n, b"stream") | ((same(n, b"f1") | same(n, b"f2")) | is_of_four(n))
 }
 
 // Whether the named words of a line all have names that are known. The first that has not is told.

@@ -2,7 +2,7 @@
 -- that say it is on a list.
 use mathlib.Core.Path.{_≡_, refl, sym, ap, _∙_, subst}
 use mathlib.Core.Bool.{Bool, true, false, not, _&&_, _||_, false≢true}
-use mathlib.Core.Logic.{⊎-elim}
+use mathlib.Core.Logic.{_⊎_, inl, inr, ⊎-elim}
 use mathlib.Core.List.{List, [], _∷_, _++_, List·Memᴰ, List·Memᴰ·head, List·Memᴰ·tail, List·Memᴰ·cases-cons, List·Memᴰ·not-nil, Memᴰ·cast}
 use mathlib.Core.List.{List·Memᴰ·append-cases, Memᴰ·append-left, Memᴰ·append-right}
 use Prim.Native.Nat.{ℕ, zero, suc, _*_, _/_, _%_, _≤_, _<_}
@@ -16,6 +16,11 @@ use Rattle.laws.specs.Run.{run, run-mem}
 pub both : (a b : Bool) → (a && b) ≡ true → (a ≡ true) × (b ≡ true)
 both true b e = (refl, e)
 both false b e = absurd (false≢true e)
+
+-- of two tests one fails
+pub one-fails : {P Q : Type 0} (a b : Bool) → (a ≡ false → P) → (b ≡ false → Q) → (a && b) ≡ false → P ⊎ Q
+one-fails false b p q e = inl (p refl)
+one-fails true b p q e = inr (q e)
 
 -- r is the test t, as code has it: where it fails, and where it passes
 pub fails : {r t : Bool} → r ≡ t → not r ≡ true → t ≡ false

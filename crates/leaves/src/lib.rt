@@ -30,14 +30,14 @@ pub fn walk(way: Way, set: Set, cell: usize, out: &mut [u16]) -> Leaf
     if sets::is_turbo(set) {
         return turbo_sets::walk(way, set, cell, out);
     }
-    if sets::is_spatial(set) {
-        return spatial_sets::walk(way, set, cell, out);
-    }
     if sets::is_quadratic(set) {
         return quadratic_sets::walk(way, set, cell, out);
     }
     if sets::is_coupled(set) {
         return couples_sets::walk(way, set, cell, out);
+    }
+    if sets::is_spatial(set) {
+        return spatial_sets::walk(way, set, cell, out);
     }
     carrier_sets::walk(way, set, cell, out)
 }
@@ -50,14 +50,14 @@ pub fn address(way: Way, set: Set, x: usize) -> usize
     if sets::is_turbo(set) {
         return turbo_sets::address(way, set, x);
     }
-    if sets::is_spatial(set) {
-        return spatial_sets::address(way, set, x);
-    }
     if sets::is_quadratic(set) {
         return quadratic_sets::address(way, set, x);
     }
     if sets::is_coupled(set) {
         return couples_sets::address(way, set, x);
+    }
+    if sets::is_spatial(set) {
+        return spatial_sets::address(way, set, x);
     }
     carrier_sets::address(way, set, x)
 }

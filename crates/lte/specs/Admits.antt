@@ -2,12 +2,12 @@
 -- positions share an address. The test of a set accepts exactly these. Rests on OneRow and Ranges of sets.
 use mathlib.Core.List.{List·Memᴰ}
 use mathlib.Core.Logic.{_↔_, inl, inr, ⊎-elim}
-use mathlib.Core.Path.{_≡_, refl}
+use mathlib.Core.Path.{_≡_}
 use Prim.Native.Nat.{ℕ, _≤_, _<_}
 use native.Mathlib.Omega.{arith}
 use Rattle.laws.specs.Outcome.{done}
 use Rattle.laws.specs.Told.{NoneTrue}
-use Rattle.profiles.specs.Profiles.{lteSizes, entryBy}
+use Rattle.profiles.specs.Profiles.{lteSizes}
 use Rattle.sets.specs.declared.Set.{Set}
 use Rattle.sets.specs.Set.{f1, f2}
 use Rattle.sets.specs.Numbered.{eight-quadratic}
@@ -15,12 +15,9 @@ use Rattle.sets.specs.Ranges.{not-outside}
 use Rattle.sets.specs.Beside.{OutOfRange, TwoShare, besideSentences, factors-range}
 use Rattle.sets.specs.Verdict.{verdictOf}
 use Rattle.sets.specs.Admits.{accepted-factors}
-use Rattle.sets.specs.OneRow.{OneRow, row-admits}
+use Rattle.sets.specs.OneRow.{row-admits}
+use Rattle.lte.specs.Factors.{lte-row}
 use Rattle.quadratic.specs.Formula.{quadraticL}
-
-pub lte-row : OneRow 8 lteSizes
-unfolding entryBy
-lte-row = record { first = omega arith; last = omega arith; rows = refl; bits = refl; streams = refl }
 
 -- a set of profile 8 as the request admits it
 pub record Admitted (s : Set) : Type 0 where

@@ -5,6 +5,7 @@ use mathlib.Core.List.{List, [], _∷_, List·Memᴰ}
 use mathlib.Core.Logic.{_↔_}
 use mathlib.Core.Path.{_≡_, refl, ap, ap₂}
 use Prim.Native.Nat.{ℕ}
+use native.Mathlib.Omega.{arith}
 use lib.Dec.{eqb}
 use borrow.Author.Tests.{eqb-true}
 use Rattle.laws.specs.Outcome.{Outcome, done, refused, Line, line, judged}
@@ -12,7 +13,6 @@ use Rattle.laws.specs.Members.{both, every, at-each}
 use Rattle.laws.specs.Sentences.{Sentence, sentence, FirstTrue, Told, none, said-exactly}
 use Rattle.laws.specs.Told.{told-unless}
 use Rattle.profiles.specs.Profiles.{lteSizes, entryBy}
-use Rattle.profiles.specs.Counted.{entry-counted}
 use Rattle.sizes.specs.Size.{size}
 use Rattle.sizes.specs.Tests.{sizeListed}
 use Rattle.sets.specs.declared.Factors.{Factors}
@@ -21,6 +21,7 @@ use Rattle.sets.specs.declared.Refusal.{Refusal}
 use Rattle.sets.specs.Set.{noFactors}
 use Rattle.sets.specs.Verdict.{refusal}
 use Rattle.sets.specs.Refusals.{refusals-apart}
+use Rattle.sets.specs.OneRow.{OneRow, passes-row}
 use Rattle.lte.specs.declared.Given.{Given}
 use Rattle.lte.specs.declared.Given.the-variants.{Of, Refused}
 use Rattle.lte.specs.Standard.{Row, standard}
@@ -53,9 +54,12 @@ sayGiven (Of f) = done f
 sayGiven (Refused x) = refused x
 
 -- a size that passes is one of the 188, and each of them passes
+pub lte-row : OneRow 8 lteSizes
+unfolding entryBy
+lte-row = record { first = omega arith; last = omega arith; rows = refl; bits = refl; streams = refl }
+
 pub passes-listed : (k : ℕ) → sizeListed (size 8 1 k) ≡ true → List·Memᴰ k lteSizes
-unfolding sizeListed entryBy
-passes-listed k e = entry-counted 8 .has-each .0 k e
+passes-listed k e = passes-row lte-row e
 
 pub listed-passes : {k : ℕ} → List·Memᴰ k lteSizes → sizeListed (size 8 1 k) ≡ true
 unfolding sizeListed entryBy lteSizes

@@ -27,7 +27,7 @@ fn verdict(profile: u32, bits: u32, n: u32) -> u32 {
     }
 }
 
-// Whether N is listed: 1, 2 and 3 are not said. (With no factors, 11 is said of a size of LTE, and no other number.)
+// Whether N is listed: 1, 2 and 3 are not said. (With zeros for factors, 11 is said of a size of LTE, 10 of one of couples, and no other number.)
 fn is_listed(profile: u32, bits: u32, n: u32) -> bool {
     let v = verdict(profile, bits, n);
     (v == 0) | (v > 3)
@@ -95,12 +95,15 @@ fn sizes(profile: u32, bits: u32) {
     row.show();
 }
 
-// What stands behind the sizes: the factors, where the profile reads any.
+// What stands behind the sizes: the factors, where the profile reads any. Zeros are refused with 11 by LTE, and with 10 by couples.
 fn factors(profile: u32, bits: u32) {
-    if verdict(profile, bits, 40) == 11 {
-        say(b"; with f1 and f2 from 1 to N - 1 that give no two positions one address");
+    match verdict(profile, bits, 40) {
+        11 => say(b"; with f1 and f2 from 1 to N - 1 that give no two positions one address\n"),
+        10 => say(
+            b"; with P0 to P3 from 0 to N - 1 that give no two outputs one couple; N couples are 2N symbols\n",
+        ),
+        _ => say(b"\n"),
     }
-    say(b"\n");
 }
 
 // The column of the streams.
@@ -143,6 +146,7 @@ fn name(profile: u32) {
         6 => say(b"        IEEE 802.11n, 20 MHz         "),
         7 => say(b"        IEEE 802.11n, 40 MHz         "),
         8 => say(b"        LTE turbo, 3GPP TS 36.212    "),
+        9 => say(b"        IEEE 802.16 turbo couples    "),
         _ => say(b"                                     "),
     }
 }
@@ -166,7 +170,7 @@ fn profile(p: u32) {
 pub fn table() {
     say(b"profile  standard                     bits  streams  N\n");
     let mut p = 1;
-    while p <= 9 {
+    while p <= 10 {
         if verdict(p, 0, 0) > 1 {
             profile(p);
         }

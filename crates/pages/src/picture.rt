@@ -1,10 +1,12 @@
-// A permutation as an SVG: a dot for each symbol, its input index across and its output index down. Padding is no symbol, so it has no dot.
+// A permutation as an SVG: a dot for each symbol, of profile 9 for each couple, its input index across and its output index down. Padding is no
+// symbol, so it has no dot.
 use super::LONGEST;
 use super::lists;
 use super::say;
 use super::say_number;
 use super::wide;
 use libc::STDOUT_FILENO;
+use sets::Factors;
 use sets::Set;
 use walks::Walk;
 use walks::Walked;
@@ -36,6 +38,13 @@ fn dots(slots: &[u16], n: u32) {
     words::text::flush(&room, at);
 }
 
+fn four(p: Factors) {
+    say_number(b", P0 ", p.first as u64);
+    say_number(b", P1 ", p.second as u64);
+    say_number(b", P2 ", p.third as u64);
+    say_number(b", P3 ", p.fourth as u64);
+}
+
 fn title(set: Set) {
     say_number(b"<title>profile ", set.profile as u64);
     say_number(b", bits ", set.bits as u64);
@@ -46,6 +55,9 @@ fn title(set: Set) {
     if sets::is_quadratic(set) {
         say_number(b", f1 ", set.factors.first as u64);
         say_number(b", f2 ", set.factors.second as u64);
+    }
+    if sets::is_coupled(set) {
+        four(set.factors);
     }
     io::write_all(
         STDOUT_FILENO,

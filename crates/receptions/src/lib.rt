@@ -7,7 +7,6 @@ use figures::decimal::spell_f32;
 use libc::STDOUT_FILENO;
 use sets::Refusal;
 use sets::Set;
-use sets::Verdict;
 use tables::LARGE;
 use tables::Moved;
 use words::arguments::LONGEST;
@@ -177,15 +176,18 @@ pub fn in_form() -> bool {
     first_file() < os::arg_count()
 }
 
+// Reads from the rooms while they are blank, which tells whether the calls refuse the set, before a file is opened.
+fn begin(set: Set, sums: &mut [f32], counts: &mut [u16]) {
+    match combine::read(set, sums, counts, 0) {
+        Reading::Refused(x) => refused(x),
+        _ => add_and_show(set, sums, counts),
+    }
+}
+
 // `combine`, of the files that the arguments name.
 pub fn from_files(set: Set) {
-    match sets::test(set) {
-        Verdict::Refused(x) => refused(x),
-        Verdict::Accepted => {
-            let mut sums = [0.0f32; LARGE];
-            let mut counts = [0u16; LARGE];
-            let n = figures::size_of(set);
-            add_and_show(set, &mut sums[..n], &mut counts[..n]);
-        }
-    }
+    let mut sums = [0.0f32; LARGE];
+    let mut counts = [0u16; LARGE];
+    let n = figures::size_of(set);
+    begin(set, &mut sums[..n], &mut counts[..n]);
 }

@@ -1,5 +1,6 @@
-// The second computation: whole lists from document 01's formulas, for profile 5, for the third step of 6 and 7 and for profile 8 from the standard's, with
-// a division at each address. It knows nothing of the walk, and promises nothing: a program holds the proved lists against it.
+// The second computation: whole lists from document 01's formulas, for profile 5, for the third step of 6 and 7 and for profiles 8 and 9 from the
+// standards', with a division at each address. It knows nothing of the walk, and promises nothing: a program holds the proved lists against it.
+pub mod couples; // couples.rt: the couples and symbols of profile 9, and its outputs tried
 pub mod num; // num.rt: arithmetic that never fails
 mod primes; // primes.rt: primes, the least primitive root, the next q
 pub mod squares; // squares.rt: the quadratic list of profile 8, and its positions tried
@@ -175,7 +176,19 @@ pub fn list_of(way: Way, set: Set, list: &mut [u16]) -> Whole {
     if set.profile == 8 {
         return squares::list_of(set, list);
     }
+    if set.profile == 9 {
+        return couples::list_of(set, list);
+    }
     carrier_list(way, set, turn(set), list)
+}
+
+// For each symbol of an accepted set's output its input symbol. For a profile without couples, that is L.
+pub fn symbols_of(set: Set, list: &mut [u16]) {
+    if set.profile == 9 {
+        couples::symbols_of(set, list);
+        return;
+    }
+    list_of(Way::Interleaver, set, list);
 }
 
 // The list of an accepted set of carriers with no stream turned: wrong on purpose.

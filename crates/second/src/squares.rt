@@ -48,7 +48,7 @@ pub fn unsquared(set: Set, list: &mut [u16]) -> Whole {
     list_by(set, false, list)
 }
 
-fn clear(k: usize, seen: &mut [u16]) {
+pub(super) fn clear(k: usize, seen: &mut [u16]) {
     let mut a = 0;
     while a < k {
         put(seen, a, 0);

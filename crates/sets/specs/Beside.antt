@@ -20,12 +20,12 @@ use Rattle.quadratic.specs.Law as squares
 use Rattle.couples.specs.Formula.{coupleL, allBelow}
 use Rattle.couples.specs.Formula as couple
 use Rattle.couples.specs.Law as pairs
-use Rattle.couples.specs.Test.{Numbered}
+use Rattle.couples.specs.Test.{Below, NotBelow, not-below, all-below, one-not-below, Numbered}
 use Rattle.sets.specs.declared.Set.{Set}
 use Rattle.sets.specs.Set.{sizeOf, familyOf, isQuadratic, isCoupled, f1, f2, couplesOf}
 use Rattle.sets.specs.Numbered.{eight-quadratic, quadratic-eight, nine-coupled, coupled-nine}
 use Rattle.sets.specs.Fit.{quadratic-fit, coupled-fit}
-use Rattle.sets.specs.Ranges.{Outside, NotBelow, Below, one-outside, both-inside, not-outside, one-not-below, all-below, not-below}
+use Rattle.sets.specs.Ranges.{Outside, one-outside, both-inside, not-outside}
 
 -- the factors that the family reads are in their range: f1 and f2 from 1 to K - 1, P0 to P3 below N
 abbrev pub inRange : Family → Set → Bool
@@ -175,8 +175,7 @@ module _ (s : Set) where
     pub couples-numbered : factorsIn s ≡ true → familyOf s ≡ Coupled → Numbered (couplesOf s)
     couples-numbered t q =
         let z = coupled-fit s m q in
-        let b = couples-range q t in
-        record { size = omega (arith, z .0); small = omega (arith, z .1); p0-in = b .p0-in; p1-in = b .p1-in; p2-in = b .p2-in; p3-in = b .p3-in }
+        record { size = omega (arith, z .0); small = omega (arith, z .1); below = couples-range q t }
 
     pub testable : factorsIn s ≡ true → Testable s
     testable t = record {

@@ -8,7 +8,7 @@ use Rattle.profiles.specs.declared.Family.{Family}
 use Rattle.profiles.specs.declared.Family.the-variants.{Carrier, Spatial, Turbo, Quadratic, Coupled}
 use Rattle.sizes.specs.Admits.{listed-range}
 use Rattle.quadratic.specs.Formula.{allApart}
-use Rattle.couples.specs.Formula as pairs
+use Rattle.couples.specs.Formula as couple
 use Rattle.couples.specs.Test.{Numbered}
 use Rattle.sets.specs.declared.Set.{Set}
 use Rattle.sets.specs.Set.{sizeOf, familyOf, f1, f2, couplesOf}
@@ -31,7 +31,7 @@ pub record Paired (s : Set) : Type 0 where
   pub most : s .n ≤ 2400
   pub numbered : Numbered (couplesOf s)
   pub four : s .n % 4 ≡ 0
-  pub apart : pairs.allApart (couplesOf s) ≡ true
+  pub apart : couple.allApart (couplesOf s) ≡ true
 
 module _ (s : Set) (e : verdictOf s ≡ done tt) where
   pub carrier-size : familyOf s ≡ Carrier → Carried s

@@ -1,5 +1,5 @@
 -- Which sets of profile 9 are accepted, in the words of request 12: N is a multiple of 4 from 24 to 2,400, bits and stream are 1, P0 to P3 are below N, and no two
--- outputs share a couple. The test of a set accepts exactly these. Rests on OneRow and Ranges.
+-- outputs share a couple. The test of a set accepts exactly these. Rests on OneRow.
 use mathlib.Core.List.{List·Memᴰ}
 use mathlib.Core.Logic.{_↔_, inl, inr}
 use mathlib.Core.Path.{_≡_, refl}
@@ -9,10 +9,10 @@ use Rattle.laws.specs.Outcome.{done}
 use Rattle.laws.specs.Told.{NoneTrue}
 use Rattle.profiles.specs.Profiles.{coupleSizes, entryBy}
 use Rattle.couples.specs.Formula.{coupleL}
+use Rattle.couples.specs.Test.{Below, not-below}
 use Rattle.sets.specs.declared.Set.{Set}
 use Rattle.sets.specs.Set.{couplesOf}
 use Rattle.sets.specs.Numbered.{nine-coupled}
-use Rattle.sets.specs.Ranges.{Below, not-below}
 use Rattle.sets.specs.Beside.{OutOfRange, TwoShare, besideSentences, couples-range}
 use Rattle.sets.specs.Verdict.{verdictOf}
 use Rattle.sets.specs.Admits.{accepted-factors}

@@ -3,8 +3,10 @@ ghost use mathlib.Core.Path.{_≡_};
 ghost use Prim.Native.Nat.{_<_};
 ghost use Rattle.sets.specs.Set.{familyOf, isTurbo, isSpatial, isQuadratic, isCoupled, couplesOf, numbersOf, groupOf};
 ghost use Rattle.sets.specs.Stream.{streamListed};
-ghost use Rattle.sets.specs.Beside.{factorsIn, factorsApart, Testable};
 ghost use Rattle.sets.specs.Verdict.{refusal, sayRuled, sayVerdict, rulingOf, verdictOf, fittingOf};
+
+mod beside; // beside.rt: what a set must have beside its size and stream
+
 use couples::Couples;
 use profiles::Family;
 use profiles::Numbers;
@@ -19,8 +21,8 @@ pub struct Factors {
     pub fourth: u32,
 }
 
-// A profile, bits per carrier, the block's size N (of profile 9 its couples), the spatial stream, which is 1 for a profile of one stream, and the factors. Any numbers may
-// be given.
+// A profile, bits per carrier, the block's size N (of profile 9 its couples), the spatial stream, which is 1 for a profile of one stream, and the factors.
+// Any numbers may be given.
 pub struct Set {
     pub profile: u32,
     pub bits: u32,
@@ -63,8 +65,8 @@ fn family_of(set: Set) -> Family
     profiles::family_by(set.profile)
 }
 
-// Whether the family is the turbo interleaver's, that of spatial streams, the quadratic interleaver's, or that of couples. (Questions of two answers each, since the
-// compiler makes one comparison of each, and some ten instructions of a match on the families.)
+// Whether the family is the turbo interleaver's, that of spatial streams, the quadratic interleaver's, or that of couples. (Questions of two answers each,
+// since the compiler makes one comparison of each, and some ten instructions of a match on the families.)
 pub fn is_turbo(set: Set) -> bool
     ensures { λ r. ⌜ r ≡ isTurbo (familyOf set) ⌝ }
 {
@@ -169,34 +171,6 @@ fn stream_listed(set: Set) -> bool
     (1 <= set.stream) & (set.stream <= numbers.streams)
 }
 
-// The factors that the family reads are in their range: f1 and f2 from 1 to K - 1, P0 to P3 below N.
-fn factors_in(set: Set) -> bool
-    ensures { λ r. ⌜ r ≡ factorsIn set ⌝ }
-{
-    if is_quadratic(set) {
-        return quadratic::is_within(set.n, set.factors.first)
-            & quadratic::is_within(set.n, set.factors.second);
-    }
-    if is_coupled(set) {
-        return couples::all_below(couples_of(set));
-    }
-    true
-}
-
-// No two positions share an address, no two outputs a couple. The factors have been tested.
-fn factors_apart(set: Set) -> bool
-    requires { ⌜ Testable set ⌝ }
-    ensures { λ r. ⌜ r ≡ factorsApart set ⌝ }
-{
-    if is_quadratic(set) {
-        return quadratic::all_apart(set.n, set.factors.first, set.factors.second);
-    }
-    if is_coupled(set) {
-        return couples::all_apart(couples_of(set));
-    }
-    true
-}
-
 // Which line of the test applies first: 1, 2, 3, 16, 11, 10, in that order, and nothing more. (`rulings-apart` in specs/Verdict.antt: what is said leaves
 // one answer.)
 pub fn ruling_of(set: Set) -> Ruled
@@ -219,11 +193,11 @@ pub fn ruling_of(set: Set) -> Ruled
     if !stream_listed(set) {
         return Ruled::Stopped(16);
     }
-    if !factors_in(set) {
-        return Ruled::Stopped(11);
+    if is_quadratic(set) {
+        return beside::ruling_of(set);
     }
-    if !factors_apart(set) {
-        return Ruled::Stopped(10);
+    if is_coupled(set) {
+        return beside::ruling_of(set);
     }
     Ruled::Clear
 }

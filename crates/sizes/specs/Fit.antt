@@ -1,6 +1,6 @@
--- What a listed size is, as a test: no N is 0, and by the family it is more. Of a carrier or a spatial profile N is a multiple of d·s, at most 1,536 and above
--- 3·r·bits; of the turbo family it is from 40 to 5,114; of the quadratic family a multiple of 8 from 40 to 6,144; of couples a multiple of 4 from 24 to 2,400. Computed over the sizes of the table, but for
--- the turbo sizes, where it is shown. Rests on Tests, and on Counted of profiles.
+-- What a listed size is, as a test: no N is 0, and by the family it is more. Of a carrier or a spatial profile N is a multiple of d·s, at most 1,536 and
+-- above 3·r·bits; of the turbo family it is from 40 to 5,114; of the quadratic family a multiple of 8 from 40 to 6,144; of couples a multiple of 4 from 24
+-- to 2,400. Computed over the sizes of the table, but for the turbo sizes, where it is shown. Rests on Tests, and on Counted of profiles.
 use mathlib.Core.Path.{_≡_, refl, sym, ap, _∙_}
 use mathlib.Core.Bool.{Bool, true, _&&_}
 use mathlib.Core.Logic.{⊎-elim}

@@ -26,7 +26,7 @@ module _ {A : Type 0} (way : Way) (s : Set) (w : ℕ) (src dst : List A) (e : mo
   perm : Perm (symbolsOf s) (blockIn way s .l) (blockIn (other way) s .l)
   perm = perm-in way (blockRule s) (its-perm s (symbolsOf s * w) (length src) (length dst) e)
 
-  -- the symbols of the input, gathered by the list of the way: N symbols of w
+  -- the symbols of the input, gathered by the list of the way: the block's symbols, of w each
   abbrev pub gathered : List (List A)
   gathered = gather (blockIn way s .l) (symbolsOf s) [] (groups w (symbolsOf s) src)
 

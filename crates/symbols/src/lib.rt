@@ -45,7 +45,8 @@ fn move_judged(way: Way, set: Set, width: u32, src: &[u8], dst: &mut [u8])
     move_by(way, set, width, &mut table, src, dst)
 }
 
-// Moves a block of symbols of `width` bytes, either way: N of them, or of couples two for each. Refusals 1, 2, 3, 16, 11, 10, 5, 6, before anything is walked.
+// Moves a block of symbols of `width` bytes, either way: N of them, or of couples two for each. Refusals 1, 2, 3, 16, 11, 10, 5, 6, before anything
+// is walked.
 pub fn move_symbols(way: Way, set: Set, width: u32, src: &[u8], dst: &mut [u8]) -> Moved
     ensures answer { λ r. ⌜ sayMoved r ≡ movedOf set (symbolsOf set * width) (length (now (src .entry))) (length (now (dst .entry))) ⌝ }
     ensures output { λ r. ⌜ now (dst .exit) ≡ movedSymbols way set width (now (src .entry)) (now (dst .entry)) ⌝ }

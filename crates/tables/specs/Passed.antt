@@ -3,6 +3,7 @@ use Prim.Native.Nat.{ℕ, _+_, _*_, _/_, _%_, _≤_, _<_}
 use mathlib.Core.List.{List}
 use mathlib.Core.Bool.{Bool, true, false, cond}
 use mathlib.Core.Path.{_≡_, refl, sym, ap, _∙_}
+use native.Mathlib.Nat.{mul-one}
 use native.Mathlib.Omega.{arith}
 use lib.Dec.{eqb}
 use lib.ListN.{length}
@@ -24,7 +25,7 @@ use Rattle.families.specs.Rules.{L, lawful}
 use Rattle.families.specs.Symbols.{symbolsOf, blockL, blockM, symbols-two, block-coupled, symbols-plain, block-plain, block-once, symbols-most}
 use Rattle.families.specs.Taken.{WalkLeaf, leaf-had}
 use Rattle.couples.specs.Symbols.{swapped, symbolL}
-use Rattle.couples_walk.specs.Spread.{Coupled, Spread}
+use Rattle.couples_walk.specs.Spread.{OfCouples, Spread}
 use Rattle.tables.specs.Answer.{lengthLines, blockLines, movedOf}
 
 -- how many symbols a block has, at most 6,144
@@ -66,6 +67,10 @@ module _ (s : Set) (total i o : ℕ) (a : Accepted s) where
 -- a block of the lengths that it must have, of an accepted set, is moved
 pub block-served : (s : Set) (total : ℕ) {i o : ℕ} → Accepted s → i ≡ total → o ≡ total → movedOf s total i o ≡ done tt
 block-served s total {i} {o} a e f = rw (front s total i o a, eq-eqb i total e, eq-eqb o total f)
+
+-- of symbols of one entry the length is how many there are
+pub answer-one : (s : Set) (i o : ℕ) → movedOf s (symbolsOf s * 1) i o ≡ movedOf s (symbolsOf s) i o
+answer-one s i o = rw (mul-one (symbolsOf s))
 
 -- where a call on a block is done, it was judged so
 module _ (s : Set) (total i o : ℕ) (e : movedOf s total i o ≡ done tt) where
@@ -126,7 +131,7 @@ module _ (s : Set) (a : Accepted s) where
 
     -- .. which are spread to their symbols
     module _ (c : isCoupled (familyOf s) ≡ true) where
-      pub couples-tabled : Coupled (s .n) table
+      pub couples-tabled : OfCouples (s .n) table
       couples-tabled =
           let q = symbols-two s c in
           record {

@@ -18,10 +18,9 @@ use Rattle.sets.specs.Set.{rowsOf, rotationOf, groupOf}
 use Rattle.profiles.specs.Profiles.{ofdm, ofdma, wlan, bench, turbo, ht20, ht40, lte, lteSizes, wimax, coupleSizes}
 use Rattle.sizes.specs.Listed.{length-turbo}
 use Rattle.sets.specs.Listed.{entryOf, setsOf, listedSets, sets-of}
-use Rattle.sets.specs.Beside.{besideSentences}
+use Rattle.sets.specs.Beside.{besideSentences, plain-other}
 use Rattle.sets.specs.Verdict.{verdictOf}
 use Rattle.sets.specs.Listed as admitted
-use Rattle.sets.specs.Beside.{plain-other}
 use Rattle.sets.specs.Numbered.{carrier-profile, five-turbo, spatial-profile, ht20-numbers, ht40-numbers}
 use Rattle.carrier.specs.Formula.{carrierL, carrierM}
 use Rattle.carrier.specs.Once.{carrier-once}

@@ -38,10 +38,7 @@ module _ {A : Type 0} where
       ap joined (run-same (λ t. getD (groups 1 n xs) (f t) []) (λ t. getD xs (f t) z ∷ []) 0 n (λ t h. group-one n xs z (f t) e (below t (omega arith))))
       ∙ joined-ones (λ t. getD xs (f t) z) 0 n
 
--- so the call on symbols of one byte is the call on bytes
-pub answer-one : (s : Set) (i o : ℕ) → movedOf s (symbolsOf s * 1) i o ≡ movedOf s (symbolsOf s) i o
-answer-one s i o = rw (mul-one (symbolsOf s))
-
+-- so the call on symbols of one byte is the call on bytes (`answer-one` of `tables` is its answer)
 pub width-one : {A : Type 0} (way : Way) (s : Set) (z : A) (src dst : List A) → movedSymbols way s 1 src dst ≡ moved way s z src dst
 unfolding movedSymbols moved
 width-one way s z src dst =

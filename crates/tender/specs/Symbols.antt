@@ -9,7 +9,7 @@ use Rattle.laws.specs.Outcome.{done}
 use Rattle.sets.specs.declared.Set.{Set}
 use Rattle.families.specs.Symbols.{symbolsOf, blockL, blockM}
 use Rattle.tables.specs.Answer.{movedOf}
-use Rattle.tables.specs.Passed.{block-served}
+use Rattle.tables.specs.Passed.{block-served, answer-one}
 use Rattle.blocks.specs.Answer.{moved}
 use Rattle.tables.specs.Answer.{blind-answer}
 use Rattle.symbols.specs.Answer.{movedSymbols}
@@ -22,7 +22,7 @@ use Rattle.tender.specs.Condition2.{Listed, admits}
 pub served-symbols : (s : Set) (w : ℕ) {i o : ℕ} → Listed s → i ≡ symbolsOf s * w → o ≡ symbolsOf s * w → movedOf s (symbolsOf s * w) i o ≡ done tt
 served-symbols s w l i o = block-served s (symbolsOf s * w) (admits s .0 l) i o
 
--- interleaved, symbol t of the output is symbol L(t) of the input ..
+-- interleaved, symbol t of the output is symbol L(t) of the input, L and M being those of the block's symbols ..
 module _ {A : Type 0} (s : Set) (l : Listed s) (w : ℕ) (src dst : List A) (i : length src ≡ symbolsOf s * w) (o : length dst ≡ symbolsOf s * w) where
   pub symbol-source : (t : ℕ) → t < symbolsOf s → take w (drop (t * w) (movedSymbols Interleaver s w src dst)) ≡ take w (drop (blockL s t * w) src)
   symbol-source t h = laws.source-of Interleaver s w src dst (served-symbols s w l i o) t h
@@ -59,4 +59,4 @@ symbols-blind h way s w src dst = (blind-answer h s src dst (symbolsOf s * w), b
 -- symbols of one byte are bytes, for every input, refused ones too
 pub width-one : {A : Type 0} (way : Way) (s : Set) (z : A) (src dst : List A)
     → (movedOf s (symbolsOf s * 1) (length src) (length dst) ≡ movedOf s (symbolsOf s) (length src) (length dst)) × (movedSymbols way s 1 src dst ≡ moved way s z src dst)
-width-one way s z src dst = (one.answer-one s (length src) (length dst), one.width-one way s z src dst)
+width-one way s z src dst = (answer-one s (length src) (length dst), one.width-one way s z src dst)

@@ -28,14 +28,16 @@ use Rattle.couples.specs.Symbols.{symbolL, pair-even, pair-odd}
 use Rattle.families.specs.Rules.{rule-is}
 use Rattle.families.specs.Symbols.{symbolsOf, blockL, symbols-two, block-coupled}
 use Rattle.walks.specs.declared.Walk.{Walk}
-use Rattle.walks.specs.Answer.{walkList, walkCells}
+use Rattle.walks.specs.Answer.{walkLines, walkedOf, walkList, walkCells}
 use Rattle.walks.specs.Whole.{walk-bare-is, cells-bare-are}
 use Rattle.tables.specs.Answer.{movedOf}
 use Rattle.tables.specs.Refusals.{blockSentences}
 use Rattle.blocks.specs.Answer.{moved}
+use Rattle.positions.specs.Heard.{Reception, Kept}
+use Rattle.combine.specs.Answer.{addLines, addedOf, readLines, readOf}
 use Rattle.tender.specs.Stars as stars
-use Rattle.tender.specs.Condition1.{refusal-order-moved}
-use Rattle.tender.specs.Condition2.{Listed, admits, L, M, each-once, source, source-back}
+use Rattle.tender.specs.Condition1.{refusal-order-symbols}
+use Rattle.tender.specs.Condition2.{Listed, admits, L, source, source-back}
 
 -- the four numbers
 abbrev pub P0 : Set → ℕ
@@ -62,6 +64,9 @@ sizes-wimax n = (
 )
 
 module _ (s : Set) (p : s .profile ≡ 9) where
+  l-is : (j : ℕ) → L s j ≡ coupleL (couplesOf s) j
+  l-is j = ap (λ (r : Rule). r .l j) (rule-is s (nine-coupled s p))
+
   -- P(j) = (P0·j + Q) mod N, where for j mod 4 = 0, 1, 2, 3, Q is 1, 1 + N/2 + P1, 1 + P2, 1 + N/2 + P3
   pub formula-wimax : (j : ℕ)
       → (j % 4 ≡ 0 → L s j ≡ (P0 s * j + 1) % s .n)
@@ -69,53 +74,52 @@ module _ (s : Set) (p : s .profile ≡ 9) where
       × (j % 4 ≡ 2 → L s j ≡ (P0 s * j + (1 + P2 s)) % s .n)
       × (j % 4 ≡ 3 → L s j ≡ (P0 s * j + (1 + s .n / 2 + P3 s)) % s .n)
   unfolding coupleL offset
-  formula-wimax j =
-      let e : L s j ≡ coupleL (couplesOf s) j = ap (λ (r : Rule). r .l j) (rule-is s (nine-coupled s p)) in
-      (λ b. e ∙ rw b, λ b. e ∙ rw b, λ b. e ∙ rw b, λ b. e ∙ rw b)
+  formula-wimax j = (λ b. l-is j ∙ rw b, λ b. l-is j ∙ rw b, λ b. l-is j ∙ rw b, λ b. l-is j ∙ rw b)
 
-  -- M(a) is the output that holds couple a
-  pub back-wimax : Listed s → (a : ℕ) → a < s .n → (M s a < s .n) × (L s (M s a) ≡ a)
-  back-wimax l a h = let e = each-once s l in (e .m-below a h, e .l-of-m a h)
-
-  -- "Profile 9 is admitted": N is one of the sizes, bits and stream are 1, each of P0 to P3 is below N, and no two different outputs have one couple. The test of a
-  -- set accepts it if and only if all of that holds
+  -- profile 9 is admitted so: N is a multiple of 4 from 24 to 2,400, bits and stream are 1, each of P0 to P3 is below N, and no two different outputs have one
+  -- couple. The test of a set accepts it if and only if all of that holds
   pub admits-wimax :
-      (List·Memᴰ (s .n) coupleSizes × (s .bits ≡ 1) × (s .stream ≡ 1) × ((P0 s < s .n) × (P1 s < s .n) × (P2 s < s .n) × (P3 s < s .n))
+      (((24 ≤ s .n) × (s .n ≤ 2400) × (s .n % 4 ≡ 0)) × (s .bits ≡ 1) × (s .stream ≡ 1) × ((P0 s < s .n) × (P1 s < s .n) × (P2 s < s .n) × (P3 s < s .n))
       × ((x y : ℕ) → x < y → y < s .n → L s x ≡ L s y → ⊥))
       ↔ (verdictOf s ≡ done tt)
   admits-wimax = (
     λ h.
         let b = h .3 in
         wimax.admits s p .0 (record {
-          size-listed = h .0;
+          size-listed = sizes-wimax (s .n) .1 (h .0);
           bits-one = h .1;
           stream-one = h .2;
           below = record { p0-in = b .0; p1-in = b .1; p2-in = b .2; p3-in = b .3 };
-          none-shared = λ x y l m o. h .4 x y l m (at x ∙ o ∙ sym (at y));
+          none-shared = λ x y l m o. h .4 x y l m (l-is x ∙ o ∙ sym (l-is y));
         }),
     λ e.
         let a = wimax.admits s p .1 e in
         let b = a .below in (
-          a .size-listed,
+          sizes-wimax (s .n) .0 (a .size-listed),
           a .bits-one,
           a .stream-one,
           (b .p0-in, b .p1-in, b .p2-in, b .p3-in),
-          λ x y l m o. a .none-shared x y l m (sym (at x) ∙ o ∙ at y),
+          λ x y l m o. a .none-shared x y l m (sym (l-is x) ∙ o ∙ l-is y),
         ),
   )
-    where
-      at : (x : ℕ) → L s x ≡ coupleL (couplesOf s) x
-      at x = ap (λ (r : Rule). r .l x) (rule-is s (nine-coupled s p))
+
+  -- "the walk for M and the combining calls refuse profile 9 with 1", whatever else they are given
+  pub refused-wimax : ((cell room : ℕ) → walkedOf Deinterleaver (record { set = s; cell = cell }) room ≡ refused (refusal s 1))
+      × ((b : Reception) (h : Kept) → addedOf s b h ≡ refused (refusal s 1))
+      × ((h : Kept) (k : ℕ) → readOf s h k ≡ refused (refusal s 1))
+  unfolding walkedOf walkLines addedOf addLines readOf readLines
+  refused-wimax = let e = nine-coupled s p in (λ cell room. rw e, λ b h. rw e, λ h k. rw e)
 
   -- "a block is 2N symbols" ..
   pub symbols-wimax : symbolsOf s ≡ 2 * s .n
   symbols-wimax = symbols-two s (ap isCoupled (nine-coupled s p))
 
-  -- .. "and refusals 5 and 6 read 2N here": a block is refused with a number exactly when its sentence is the first that holds
-  pub lengths-wimax : (i o k : ℕ) → (movedOf s (symbolsOf s) i o ≡ refused (refusal s k))
-      ↔ FirstTrue (setSentences s ++ (sentence 5 (i ≢ 2 * s .n) ∷ sentence 6 (o ≢ 2 * s .n) ∷ [])) k
-  lengths-wimax i o k =
-      subst (λ (n : ℕ). (movedOf s (symbolsOf s) i o ≡ refused (refusal s k)) ↔ FirstTrue (blockSentences s n i o) k) symbols-wimax (refusal-order-moved s i o k)
+  -- .. "and refusals 5 and 6 read 2N here", of symbols of w bytes 2N times w: a block is refused with a number exactly when its sentence is the first that holds
+  pub lengths-wimax : (w i o k : ℕ) → (movedOf s (symbolsOf s * w) i o ≡ refused (refusal s k))
+      ↔ FirstTrue (setSentences s ++ (sentence 5 (i ≢ 2 * s .n * w) ∷ sentence 6 (o ≢ 2 * s .n * w) ∷ [])) k
+  lengths-wimax w i o k =
+      subst (λ (n : ℕ). (movedOf s (symbolsOf s * w) i o ≡ refused (refusal s k)) ↔ FirstTrue (blockSentences s (n * w) i o) k) symbols-wimax
+      (refusal-order-symbols s w i o k)
 
   -- "First, odd-numbered couples swap A and B. Then output couple j is couple P(j)": the A and the B of output couple j are those of couple P(j) where its number is
   -- even, and its B and its A where it is odd
@@ -157,7 +161,7 @@ module _ (s : Set) (p : s .profile ≡ 9) where
           λ e. let q = c .1 e in (a ∙ ap (λ (x : ℕ). getD src x z) (q .0), b ∙ ap (λ (x : ℕ). getD src x z) (q .1)),
         )
 
-    -- .. and "both steps are undone on the way back"
+    -- .. and the way back undoes both steps
     abbrev back : List A
     back = moved Deinterleaver s z src dst
 
@@ -182,8 +186,8 @@ walk-wimax w room l p h =
     let q = rule-is (w .set) (nine-coupled (w .set) p) in
     (walk-bare-is w room e q h, cells-bare-are w room e q)
 
--- N 24 with 5, 0, 0, 0 is accepted, and so is N 28 with 2, 1, 2, 3, where P0 and N have a common divisor; N 24 with 5, 1, 0, 0 gets 10, though they have none, and a P0
--- of 0 gets 10, which passes 11; one number that is N gets 11
+-- N 24 with 5, 0, 0, 0 is accepted, and so is N 28 with 2, 1, 2, 3, where P0 and N have a common divisor; N 24 with 5, 1, 0, 0 gets 10, though they have
+-- none, and a P0 of 0 gets 10, which passes 11; one number that is N gets 11
 pub cases-wimax : (verdictOf (stars.wimax 24 5 0 0 0) ≡ done tt)
     × (verdictOf (stars.wimax 28 2 1 2 3) ≡ done tt)
     × (verdictOf (stars.wimax 24 5 1 0 0) ≡ refused (refusal (stars.wimax 24 5 1 0 0) 10))

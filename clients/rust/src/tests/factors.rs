@@ -1,6 +1,6 @@
 // Profile 8: lists, walks and blocks beside the formula, the standard's own factors, all positions tried for a small K; and refusals 11 and 10 in
 // every call.
-use super::spatial::{said, CALLS};
+use super::spatial::{all_say, said};
 use super::*;
 
 pub fn sets() -> impl Iterator<Item = Set> {
@@ -21,7 +21,12 @@ fn list(set: Set) -> Vec<u16> {
 #[test]
 fn lists_are_the_formula() {
     assert_eq!(Set::lte(40, 3, 10).unwrap().sources().unwrap()[..5], [0, 13, 6, 19, 12]);
-    for set in sets() {
+    lists_are(sets(), list);
+}
+
+// That the lists of some sets of profile 8 or 9, and every single address, are as given.
+pub fn lists_are(sets: impl Iterator<Item = Set>, list: fn(Set) -> Vec<u16>) {
+    for set in sets {
         assert_eq!((set.sources(), set.targets()), (Ok(list(set)), Err(Refusal::Profile)));
         for (t, l) in (0..).zip(list(set)) {
             assert_eq!((set.source(t), set.target(l as u32)), (Ok(l as u32), Ok(t)));
@@ -32,17 +37,22 @@ fn lists_are_the_formula() {
     }
 }
 
-// From every cell of a small list and some of a large one, with refused walks between.
 #[test]
 fn walks_in_slices() {
-    for set in sets() {
+    walks_are(sets(), list);
+}
+
+// The same of their walks: from every cell of a small list and some of a large one, with refused walks between.
+pub fn walks_are(sets: impl Iterator<Item = Set>, list: fn(Set) -> Vec<u16>) {
+    for set in sets {
         let (list, far) = (list(set), if set.n < 100 { 1 } else { set.size() / 7 });
         for (from, room) in (0..=set.size()).step_by(far).flat_map(|from| [1, 7, 13].map(|room| (from, room))) {
             let (mut walk, mut joined, mut out) = (Walk::sources(set), Vec::<u16>::new(), [0xeeee; 13]);
             walk.cell = from as u32;
             loop {
                 let (mut shared, mut back, mut past) = (walk, Walk::targets(set), walk);
-                (shared.set.factors[0], back.cell, past.cell) = (2, walk.cell, set.n + 1);
+                // profile 8 has no even f1, and profile 9 no P0 of 0
+                (shared.set.factors[0], back.cell, past.cell) = (if set.profile == 8 { 2 } else { 0 }, walk.cell, set.n + 1);
                 let kept = [shared, back, past];
                 let all = [shared.fill(&mut out[..room]), back.fill(&mut out[..room]), past.fill(&mut out[..room])];
                 assert_eq!(all, [Refusal::Shared, Refusal::Profile, Refusal::Record].map(Err));
@@ -141,21 +151,21 @@ fn factors_are_tested_after_the_stream() {
         for (set, refusal) in
             [(set, refusal), (stream, Stream), (Set { n: 41, ..stream }, Size { fits: 48 }), (Set { bits: 2, n: 41, ..stream }, Bits)]
         {
-            let mut all = [Err(refusal); CALLS];
-            all[3] = Err(Profile); // the walk for M
+            let all = all_say(set, refusal);
             assert_eq!((set.test(), said(set, 40, false), said(set, 40, true)), (Err(refusal), all, all));
         }
-        assert_eq!(Set { profile: 9, ..set }.test(), Err(Profile));
+        assert_eq!(Set { profile: 10, ..set }.test(), Err(Profile));
     }
-    assert_eq!(Set::lte(40, 3, 40).unwrap_err().to_string(), "refused with 11: f1 or f2 of profile 8 is 0, or not below N");
+    let said = "refused with 11: f1 or f2 of profile 8 is 0, or not below N, or one of P0 to P3 of profile 9 isn't below N";
+    assert_eq!(Set::lte(40, 3, 40).unwrap_err().to_string(), said);
 }
 
-// Those of every other profile, and the last two of profile 8.
+// The last two of profile 8, and all of every profile but 8 and 9.
 #[test]
 fn factors_that_are_not_read() {
     for set in super::sets() {
-        let [f1, f2, ..] = if set.profile == 8 { set.factors } else { [u32::MAX; 4] };
-        let other = Set { factors: [f1, f2, u32::MAX, u32::MAX], ..set };
+        let mut other = set;
+        other.factors[[0, 2, 4][set.profile.clamp(7, 9) as usize - 7]..].fill(u32::MAX);
         assert_eq!((other.test(), other.sources(), other.targets()), (Ok(()), set.sources(), set.targets()));
         assert_eq!((other.source(1), other.target(1)), (set.source(1), set.target(1)));
     }

@@ -22,7 +22,7 @@ fn refusal_3_says_which_size_fits() {
         }
     }
     let late = Set::new(3, 4, 192).unwrap().with_stream(9);
-    assert_eq!((late.test(), Set::new(3, 3, 100), Set::new(9, 4, 100)), (Err(Refusal::Stream), Err(Refusal::Bits), Err(Refusal::Profile)));
+    assert_eq!((late.test(), Set::new(3, 3, 100), Set::new(10, 4, 100)), (Err(Refusal::Stream), Err(Refusal::Bits), Err(Refusal::Profile)));
     let said = [100, 193].map(|n| Set::new(3, 4, n).unwrap_err().to_string());
     let sentence = "refused with 3: N isn't listed for that profile and those bits";
     assert_eq!(said, [format!("{sentence}; the next listed one is 192"), format!("{sentence}; no listed one is so large")]);

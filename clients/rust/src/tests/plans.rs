@@ -128,6 +128,7 @@ fn refused_sets() {
         ([6, 4, 208], Refusal::Profile),
         ([6, 4, 100], Refusal::Profile),
         ([8, 1, 40], Refusal::Profile),
+        ([9, 1, 24], Refusal::Profile),
         ([261, 1, 40], Refusal::Profile),
         ([u32::MAX, 4, 192], Refusal::Profile),
         ([3, 3, 192], Refusal::Bits),

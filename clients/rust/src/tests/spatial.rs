@@ -111,6 +111,18 @@ pub fn said(set: Set, n: usize, faults: bool) -> [Result<(), Refusal>; CALLS] {
     all
 }
 
+// What every call says of a refused set: its refusal, but for the walk for M of profiles 5, 8 and 9 and the receptions of profile 9.
+pub fn all_say(set: Set, refusal: Refusal) -> [Result<(), Refusal>; CALLS] {
+    let mut all = [Err(refusal); CALLS];
+    if matches!(set.profile, 5 | 8 | 9) {
+        all[3] = Err(Refusal::Profile);
+    }
+    if set.profile == 9 {
+        all[10..].fill(Err(Refusal::Profile));
+    }
+    all
+}
+
 // The least listed size of a set's profile and bits.
 fn least(set: Set) -> u32 {
     match set.profile {
@@ -119,6 +131,7 @@ fn least(set: Set) -> u32 {
         4 => 16 * (set.bits / 2).max(1),
         6 => 52 * set.bits,
         7 => 108 * set.bits,
+        9 => 24,
         _ => 40,
     }
 }
@@ -127,12 +140,12 @@ fn least(set: Set) -> u32 {
 fn a_stream_is_tested_after_the_size() {
     use Refusal::*;
     let listed = [(1, 6, 72), (2, 2, 96), (3, 4, 192), (4, 4, 64), (5, 1, 40), (6, 1, 52), (7, 6, 648)].map(|(p, b, n)| Set::new(p, b, n).unwrap());
-    for set in listed.into_iter().chain(Set::lte(40, 3, 10)) {
-        // the walk for M refuses profiles 5 and 8 with 1
-        let (n, walk_m) = (set.size(), |refusal| if matches!(set.profile, 5 | 8) { Profile } else { refusal });
+    for set in listed.into_iter().chain(Set::lte(40, 3, 10)).chain(Set::wimax(24, [5, 0, 0, 0])) {
+        let n = set.symbols();
+        let walks = [Position, Position, Record, if matches!(set.profile, 5 | 8 | 9) { Profile } else { Record }];
         let blocks = [Input, Output, Output, Input, Input, Output];
-        let sums = [Count, Finite, Presence, Output, Input, Output, Position];
-        let own = [&[Position, Position, Record, walk_m(Record)], &blocks[..], &sums[..]].concat();
+        let sums = if set.profile == 9 { [Profile; 7] } else { [Count, Finite, Presence, Output, Input, Output, Position] };
+        let own = [&walks[..], &blocks[..], &sums[..]].concat();
         assert_eq!(said(set, n, true).to_vec(), own.into_iter().map(Err).collect::<Vec<_>>());
         for stream in [0, 2, 3, 4, 5, 257, 65_537, u32::MAX] {
             let set = set.with_stream(stream);
@@ -142,8 +155,7 @@ fn a_stream_is_tested_after_the_size() {
             }
             let fits = least(set); // 7 is below every size
             for (set, refusal) in [(set, Stream), (Set { n: 7, ..set }, Size { fits }), (Set { bits: 3, ..set }, Bits)] {
-                let mut all = [Err(refusal); CALLS];
-                all[3] = Err(walk_m(refusal));
+                let all = all_say(set, refusal);
                 assert_eq!((set.test(), said(set, n, false), said(set, n, true)), (Err(refusal), all, all));
             }
         }

@@ -7,10 +7,10 @@ use Rattle.compare.proofs.blocks_each.Statement.{statement}
 use Rattle.compare.proofs.blocks_each.Tie as tie
 
 abbrev Inv-loop : tie.InvT-loop
-Inv-loop list₀ c₀ i₀ list c i = (i ≤ 32) × (length list ≡ length list₀)
+Inv-loop list₀ c₀ i₀ list c i = (i ≤ 36) × (length list ≡ length list₀)
 
 abbrev μ-loop : tie.MeasureT-loop
-μ-loop list₀ c₀ i₀ list c i = 32 - i
+μ-loop list₀ c₀ i₀ list c i = 36 - i
 
 none-requires : tie.Need-none-requires Inv-loop μ-loop
 none-requires c κs = search needs

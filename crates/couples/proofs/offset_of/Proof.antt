@@ -13,20 +13,20 @@ returns-2 : tie.Need-returns-2
 returns-2 c =
     let b = c .before .before in
     let e = b .before .before in
-    (offset-1 _ _ (b .before .if1 .left) (b .if2 .taken), omega (arith, e .pre .small, e .pre .p1-in, div-le-self (e .args .couples .n) 2))
+    (offset-1 _ _ (b .before .if1 .left) (b .if2 .taken), omega (arith, e .pre .small, e .pre .below .p1-in, div-le-self (e .args .couples .n) 2))
 
 returns-3 : tie.Need-returns-3
 returns-3 c =
     let b = c .before in
     let e = b .before .before .before in
-    (offset-2 _ _ (b .before .before .if1 .left) (b .before .if2 .left) (b .if3 .taken), omega (arith, e .pre .small, e .pre .p2-in))
+    (offset-2 _ _ (b .before .before .if1 .left) (b .before .if2 .left) (b .if3 .taken), omega (arith, e .pre .small, e .pre .below .p2-in))
 
 returns-4 : tie.Need-returns-4
 returns-4 c =
     let b = c .before .before in
     let e = b .before .before .before in (
       offset-3 _ _ (b .before .before .if1 .left) (b .before .if2 .left) (b .if3 .left),
-      omega (arith, e .pre .small, e .pre .p3-in, div-le-self (e .args .couples .n) 2),
+      omega (arith, e .pre .small, e .pre .below .p3-in, div-le-self (e .args .couples .n) 2),
     )
 
 pub offset-of-spec : {M : Type 1} → statement M

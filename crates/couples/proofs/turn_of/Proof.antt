@@ -10,7 +10,7 @@ use Rattle.couples.proofs.turn_of.Tie as tie
 fits : (c : tie.Start) → c .args .couples .p0 * c .args .b ≤ 32768
 fits c =
     let p = c .pre in
-    mul-le-mul {n₂ = 8192} {m₂ = 4} (omega (arith, p .0 .p0-in, p .0 .small)) (omega (arith, p .1))
+    mul-le-mul {n₂ = 8192} {m₂ = 4} (omega (arith, p .0 .below .p0-in, p .0 .small)) (omega (arith, p .1))
 
 mul-result : tie.Need-mul-result
 mul-result c = omega (arith, fits (c .before))

@@ -1,7 +1,7 @@
 -- `fitting::next_by_four` rounds the first number asked for up by 4.
 use native.Mathlib.Omega.{arith}
 use borrow.Author.Needs.{needs}
-use Rattle.fitting.specs.Tiers.{next-by-four}
+use Rattle.fitting.specs.Fours.{next-by-four}
 use Rattle.fitting.proofs.next_by_four.Statement.{statement}
 use Rattle.fitting.proofs.next_by_four.Tie as tie
 

@@ -1,14 +1,16 @@
 -- `sets::ruling_of` says which line applies first: each return by the tests that led there.
 use mathlib.Core.Bool.{true}
-use mathlib.Core.Path.{_≡_}
+use mathlib.Core.List.{List·Memᴰ}
+use mathlib.Core.Path.{_≡_, sym, _∙_}
 use borrow.Author.Needs.{needs}
 use Rattle.laws.specs.Members.{fails, passes}
-use Rattle.sizes.specs.Tests.{profileListed, bitsListed, sizeListed}
+use Rattle.laws.specs.Outcome.{first}
+use Rattle.sizes.specs.Tests.{listedSizes, profileListed, bitsListed, sizeListed}
 use Rattle.sizes.specs.Listed.{bits-small}
 use Rattle.sets.specs.declared.Set.{Set}
 use Rattle.sets.specs.Set.{sizeOf}
 use Rattle.sets.specs.Stream.{streamListed}
-use Rattle.sets.specs.Beside.{factorsIn, testable}
+use Rattle.sets.specs.Beside.{besideLines, none-in, none-apart}
 use Rattle.sets.specs.Verdict.{setLines}
 use Rattle.sizes.specs.Admits.{passing-listed}
 use Rattle.sets.proofs.ruling_of.Statement.{statement}
@@ -29,9 +31,6 @@ asked e = e .before .before .before .before .before .before .before .before .arg
 
 stream-passed : (e : tie.Else4) → streamListed (asked e) ≡ true
 stream-passed e = passes (e .before .stream-listed .ensures) (e .if4 .left)
-
-factors-passed : (e : tie.Else5) → factorsIn (asked (e .before .before)) ≡ true
-factors-passed e = passes (e .before .factors-in .ensures) (e .if5 .left)
 
 -- the first four
 listed : (e : tie.Else4)
@@ -68,37 +67,36 @@ returns-4 c =
       fails (c .before .stream-listed .ensures) (c .if4 .taken),
     )
 
-returns-5 : tie.Need-returns-5
+-- behind them the factors decide
+beside : (e : tie.Else4) → first (setLines (asked e)) ≡ first (besideLines (asked e))
 unfolding setLines
-returns-5 c =
-    let e = c .before .before in
-    let l = listed e in
-    simp (l .0, l .1, l .2, stream-passed e, fails (c .before .factors-in .ensures) (c .if5 .taken))
+beside e = let l = listed e in rw (l .0, l .1, l .2, stream-passed e)
 
-factors-apart-requires : tie.Need-factors-apart-requires
-factors-apart-requires c κs =
-    let e = c .before .before in
-    let l = listed e in
-    testable (asked e) (passing-listed (sizeOf (asked e)) (l .0) (l .1) (l .2)) (factors-passed c)
+listed-size : (e : tie.Else4) → List·Memᴰ (sizeOf (asked e)) listedSizes
+listed-size e = let l = listed e in passing-listed (sizeOf (asked e)) (l .0) (l .1) (l .2)
+
+ruling-of-requires : tie.Need-ruling-of-requires
+ruling-of-requires c κs = listed-size (c .before .before)
+
+returns-5 : tie.Need-returns-5
+returns-5 c = c .ruling-of .ensures ∙ sym (beside (c .before .before .before))
+
+ruling-of-requires-2 : tie.Need-ruling-of-requires-2
+ruling-of-requires-2 c κs = listed-size (c .before .before .before .before)
 
 returns-6 : tie.Need-returns-6
-unfolding setLines
-returns-6 c =
-    let i = c .before .before in
-    let e = i .before .before in
-    let l = listed e in
-    simp (l .0, l .1, l .2, stream-passed e, factors-passed i, fails (c .before .factors-apart .ensures) (c .if6 .taken))
+returns-6 c = c .ruling-of2 .ensures ∙ sym (beside (c .before .before .before .before .before))
 
 returns-7 : tie.Need-returns-7
-unfolding setLines
 returns-7 c =
-    let i = c .before .before in
-    let e = i .before .before in
-    let l = listed e in
-    simp (l .0, l .1, l .2, stream-passed e, factors-passed i, passes (c .before .factors-apart .ensures) (c .if6 .left))
+    let q = c .before .before in
+    let e = q .before .before in
+    let n = sym (q .before .is-quadratic .ensures) ∙ q .if5 .left in
+    let o = sym (c .before .is-coupled .ensures) ∙ c .if6 .left in
+    sym (beside e ∙ rw (← none-in (asked e) n o, ← none-apart (asked e) n o))
 
 pub ruling-of-spec : {M : Type 1} → statement M
 ruling-of-spec =
     tie.close
     (tie.spec (λ c κs. search needs) returns (λ c κs. search needs) returns-2 size-listed-requires returns-3 (λ c κs. search needs) returns-4
-    (λ c κs. search needs) returns-5 factors-apart-requires returns-6 returns-7)
+    (λ c κs. search needs) ruling-of-requires returns-5 (λ c κs. search needs) ruling-of-requires-2 returns-6 returns-7)

@@ -1,14 +1,14 @@
--- Ten profiles, eight bits of each.
+-- Eleven profiles, eight bits of each.
 use Prim.Native.Nat.{_≤_, _-_}
 use borrow.Author.Needs.{needs}
 use Rattle.compare.proofs.fitted.each.Statement.{statement}
 use Rattle.compare.proofs.fitted.each.Tie as tie
 
 abbrev Inv-loop : tie.InvT-loop
-Inv-loop up r₀ i₀ r i = i ≤ 80
+Inv-loop up r₀ i₀ r i = i ≤ 88
 
 abbrev μ-loop : tie.MeasureT-loop
-μ-loop up r₀ i₀ r i = 80 - i
+μ-loop up r₀ i₀ r i = 88 - i
 
 pub each-spec : {M : Type 1} → statement M
 each-spec =

@@ -6,8 +6,8 @@ use borrow.Author.Needs.{needs}
 use Rattle.compare.proofs.moves.block_of.Statement.{statement}
 use Rattle.compare.proofs.moves.block_of.Tie as tie
 
-cast-n : tie.Need-cast-n
-cast-n c = search needs
+symbols-of-requires : tie.Need-symbols-of-requires
+symbols-of-requires c κs = search needs
 
 least-requires : tie.Need-least-requires
 least-requires c κs = search needs
@@ -58,7 +58,7 @@ pub block-of-spec : {M : Type 1} → statement M
 block-of-spec =
     tie.close
     (tie.spec
-    cast-n
+    symbols-of-requires
     least-requires
     least-requires-2
     wrong-requires

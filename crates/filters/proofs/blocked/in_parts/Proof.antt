@@ -7,20 +7,23 @@ use borrow.Author.Needs.{needs}
 use Rattle.filters.proofs.blocked.in_parts.Statement.{statement}
 use Rattle.filters.proofs.blocked.in_parts.Tie as tie
 
-cast-n : tie.Need-cast-n
-cast-n c = search needs
-
-mul-n : tie.Need-mul-n
-mul-n c =
-    let a = c .before .before .before .args in
-    let z : a .set .n * a .width ≤ 4294967295 * 4294967295 = mul-le-mul {n₂ = 4294967295} {m₂ = 4294967295} (search needs) (search needs) in
-    search (needs, z)
+symbols-of-requires : tie.Need-symbols-of-requires
+symbols-of-requires c κs = search needs
 
 returns : tie.Need-returns
 returns c = search needs
 
+mul-n : tie.Need-mul-n
+mul-n c =
+    let w = c .before .before .before .before .args .width in
+    let z : c .before .symbols-of .result * w ≤ 6144 * 4294967295 = mul-le-mul {n₂ = 6144} {m₂ = 4294967295} (c .if1 .left) (search needs) in
+    search (needs, z)
+
 returns-2 : tie.Need-returns-2
 returns-2 c = search needs
+
+returns-3 : tie.Need-returns-3
+returns-3 c = search needs
 
 slice-relend-prefix-turns : tie.Need-slice-relend-prefix-turns
 slice-relend-prefix-turns c = search needs
@@ -43,17 +46,18 @@ same-length c = search needs
 same-length-2 : tie.Need-same-length-2
 same-length-2 c = search needs
 
-returns-3 : tie.Need-returns-3
-returns-3 c = search needs
+returns-4 : tie.Need-returns-4
+returns-4 c = search needs
 
 pub in-parts-spec : {M : Type 1} → statement M
 in-parts-spec =
     tie.close
     (tie.spec
-    cast-n
-    mul-n
+    symbols-of-requires
     returns
+    mul-n
     returns-2
+    returns-3
     slice-relend-prefix-turns
     slice-aggregate-turns
     slice-relend-prefix-turns-2
@@ -61,4 +65,4 @@ in-parts-spec =
     turns-requires
     same-length
     same-length-2
-    returns-3)
+    returns-4)

@@ -5,10 +5,10 @@ use Rattle.pages.proofs.admitted.table.Statement.{statement}
 use Rattle.pages.proofs.admitted.table.Tie as tie
 
 abbrev Inv-loop : tie.InvT-loop
-Inv-loop p₀ p = p ≤ 10
+Inv-loop p₀ p = p ≤ 11
 
 abbrev μ-loop : tie.MeasureT-loop
-μ-loop p₀ p = 10 - p
+μ-loop p₀ p = 11 - p
 
 slice-aggregate-say : tie.Need-slice-aggregate-say Inv-loop μ-loop
 slice-aggregate-say c = search needs

@@ -1,11 +1,11 @@
--- `sets::factors_in` is the test of the factors' range, by the family.
+-- `sets::beside::factors_in` is the test of the factors' range, by the family.
 use mathlib.Core.Bool.{_&&_}
 use mathlib.Core.Path.{ap, ap₂, sym, _∙_}
 use borrow.Author.Needs.{needs}
 use Rattle.couples.specs.Formula.{allBelow}
 use Rattle.sets.specs.Beside.{the-quadratic, the-coupled, in-by, none-in}
-use Rattle.sets.proofs.factors_in.Statement.{statement}
-use Rattle.sets.proofs.factors_in.Tie as tie
+use Rattle.sets.proofs.beside.factors_in.Statement.{statement}
+use Rattle.sets.proofs.beside.factors_in.Tie as tie
 
 returns : tie.Need-returns
 returns c =

@@ -1,11 +1,11 @@
--- `sets::factors_apart` is the test of the addresses, by the family.
+-- `sets::beside::factors_apart` is the test of the addresses, by the family.
 use mathlib.Core.Path.{ap, sym, subst, _∙_}
 use borrow.Author.Needs.{needs}
 use Rattle.couples.specs.Formula.{allApart}
 use Rattle.couples.specs.Test.{Numbered}
 use Rattle.sets.specs.Beside.{the-quadratic, the-coupled, apart-by, none-apart}
-use Rattle.sets.proofs.factors_apart.Statement.{statement}
-use Rattle.sets.proofs.factors_apart.Tie as tie
+use Rattle.sets.proofs.beside.factors_apart.Statement.{statement}
+use Rattle.sets.proofs.beside.factors_apart.Tie as tie
 
 all-apart-requires : tie.Need-all-apart-requires
 all-apart-requires c κs =
