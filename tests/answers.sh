@@ -45,7 +45,8 @@ expect 'the dots of picture 1 6 1152' $?
 
 # the pictures of the README are what the program draws
 ./interleaver picture 3 6 288 | cmp -s - docs/pictures/wlan.svg && ./interleaver picture 6 6 312 stream=2 | cmp -s - docs/pictures/stream.svg &&
-    ./interleaver picture 5 1 320 | cmp -s - docs/pictures/turbo.svg && ./interleaver picture 8 1 320 | cmp -s - docs/pictures/lte.svg && ./interleaver picture dvb burst | cmp -s - docs/pictures/burst.svg &&
+    ./interleaver picture 5 1 320 | cmp -s - docs/pictures/turbo.svg && ./interleaver picture 8 1 320 | cmp -s - docs/pictures/lte.svg &&
+    ./interleaver picture 9 1 240 p0=13 p1=120 p2=60 p3=180 | cmp -s - docs/pictures/couples.svg && ./interleaver picture dvb burst | cmp -s - docs/pictures/burst.svg &&
     ./interleaver picture atsc burst | cmp -s - docs/pictures/burst_atsc.svg
 expect 'the pictures in docs are the program'"'"'s' $?
 

@@ -27,6 +27,9 @@ pub fn walk(way: Way, set: Set, cell: usize, out: &mut [u16]) -> Leaf
     requires { ⌜ Accepted set ⌝ }
     ensures { λ r. ⌜ WalkLeaf way set cell (now (out .entry)) (now (out .exit)) r ⌝ }
 {
+    if sets::is_spatial(set) {
+        return spatial_sets::walk(way, set, cell, out);
+    }
     if sets::is_turbo(set) {
         return turbo_sets::walk(way, set, cell, out);
     }
@@ -36,9 +39,6 @@ pub fn walk(way: Way, set: Set, cell: usize, out: &mut [u16]) -> Leaf
     if sets::is_coupled(set) {
         return couples_sets::walk(way, set, cell, out);
     }
-    if sets::is_spatial(set) {
-        return spatial_sets::walk(way, set, cell, out);
-    }
     carrier_sets::walk(way, set, cell, out)
 }
 
@@ -47,6 +47,9 @@ pub fn address(way: Way, set: Set, x: usize) -> usize
     requires { ⌜ Accepted set × (x < set .n) ⌝ }
     ensures { λ r. ⌜ r ≡ ruleIn way set .l x ⌝ }
 {
+    if sets::is_spatial(set) {
+        return spatial_sets::address(way, set, x);
+    }
     if sets::is_turbo(set) {
         return turbo_sets::address(way, set, x);
     }
@@ -55,9 +58,6 @@ pub fn address(way: Way, set: Set, x: usize) -> usize
     }
     if sets::is_coupled(set) {
         return couples_sets::address(way, set, x);
-    }
-    if sets::is_spatial(set) {
-        return spatial_sets::address(way, set, x);
     }
     carrier_sets::address(way, set, x)
 }

@@ -1,24 +1,22 @@
 -- What a set must have beside a listed size and stream, change requests 6 and 12. The quadratic interleaver: two numbers f1 and f2 from 1 to K - 1, and no two
 -- positions that share an address. Couples: four numbers P0 to P3 below N, and no two outputs that share a couple. Every other: nothing. The tests, the
--- sentences of 11 and 10, and that the one says what the other does. Rests on Ranges.
+-- sentences of 11 and 10, and that the one says what the other does. Rests on Ranges and Factored.
 use Prim.Native.Nat.{_%_, _<_}
-use mathlib.Core.Bool.{Bool, true, false, not, _&&_, true≢false, false≢true}
+use mathlib.Core.Bool.{Bool, true, false, not, true≢false, false≢true}
 use mathlib.Core.List.{List, [], _∷_, List·Memᴰ}
 use mathlib.Core.Logic.{_⊎_, inl, inr, ⊎-elim}
 use mathlib.Core.Path.{_≡_, refl, sym, ap, _∙_}
 use native.Mathlib.Omega.{arith}
 use borrow.Author.Tests.{not-true, not-false}
-use Rattle.laws.specs.Outcome.{Line, line}
+use Rattle.laws.specs.Outcome.{Line, line, first}
 use Rattle.laws.specs.Sentences.{Sentence, sentence, Told, none, more}
 use Rattle.laws.specs.Shared.{Shared}
 use Rattle.profiles.specs.declared.Family.{Family}
 use Rattle.profiles.specs.declared.Family.the-variants.{Carrier, Spatial, Turbo, Quadratic, Coupled}
 use Rattle.sizes.specs.Tests.{listedSizes}
-use Rattle.quadratic.specs.Formula.{quadraticL, within}
-use Rattle.quadratic.specs.Formula as square
+use Rattle.quadratic.specs.Formula.{quadraticL}
 use Rattle.quadratic.specs.Law as squares
-use Rattle.couples.specs.Formula.{coupleL, allBelow}
-use Rattle.couples.specs.Formula as couple
+use Rattle.couples.specs.Formula.{coupleL}
 use Rattle.couples.specs.Law as pairs
 use Rattle.couples.specs.Test.{Below, NotBelow, not-below, all-below, one-not-below, Numbered}
 use Rattle.sets.specs.declared.Set.{Set}
@@ -26,14 +24,15 @@ use Rattle.sets.specs.Set.{sizeOf, familyOf, isQuadratic, isCoupled, f1,
 use Rattle.sets.specs.Numbered.{eight-quadratic, quadratic-eight, nine-coupled, coupled-nine}
 use Rattle.sets.specs.Fit.{quadratic-fit, coupled-fit}
 use Rattle.sets.specs.Ranges.{Outside, one-outside, both-inside, not-outside}
+use Rattle.sets.specs.Factored.{rangeOf, apartOf, factorLines, Sized, testable}
 
 -- the factors that the family reads are in their range: f1 and f2 from 1 to K - 1, P0 to P3 below N
 abbrev pub inRange : Family → Set → Bool
 inRange Carrier s = true
 inRange Spatial s = true
 inRange Turbo s = true
-inRange Quadratic s = within (s .n) (f1 s) && within (s .n) (f2 s)
-inRange Coupled s = allBelow (couplesOf s)
+inRange Quadratic s = rangeOf true (couplesOf s)
+inRange Coupled s = rangeOf false (couplesOf s)
 
 unfoldable pub factorsIn : Set → Bool
 factorsIn s = inRange (familyOf s) s
@@ -43,8 +42,8 @@ abbrev pub allApart : Family → Set → Bool
 allApart Carrier s = true
 allApart Spatial s = true
 allApart Turbo s = true
-allApart Quadratic s = square.allApart (s .n) (f1 s) (f2 s)
-allApart Coupled s = couple.allApart (couplesOf s)
+allApart Quadratic s = apartOf true (couplesOf s)
+allApart Coupled s = apartOf false (couplesOf s)
 
 unfoldable pub factorsApart : Set → Bool
 factorsApart s = allApart (familyOf s) s
@@ -93,11 +92,6 @@ plain-other s n = go (isCoupled (familyOf s)) (λ e. n (coupled-nine s (the-coup
     go false n = refl
     go true n = absurd (n refl)
 
--- what the test of the addresses requires
-pub record Testable (s : Set) : Type 0 where
-  pub squares-in : familyOf s ≡ Quadratic → (0 < s .n) × (s .n < 65536) × (f2 s < s .n)
-  pub couples-in : familyOf s ≡ Coupled → Numbered (couplesOf s)
-
 module _ (s : Set) where
   -- a test by the family
   pub in-by : {f : Family} → familyOf s ≡ f → factorsIn s ≡ inRange f s
@@ -107,6 +101,11 @@ module _ (s : Set) where
   pub apart-by : {f : Family} → familyOf s ≡ f → factorsApart s ≡ allApart f s
   unfolding factorsApart
   apart-by e = ap (λ (f : Family). allApart f s) e
+
+  -- the lines of a family that is asked
+  pub lines-by : (b : Bool) {f : Family} → familyOf s ≡ f → inRange f s ≡ rangeOf b (couplesOf s) → allApart f s ≡ apartOf b (couplesOf s)
+      → first (factorLines b (couplesOf s)) ≡ first (besideLines s)
+  lines-by b q r a = sym (rw (in-by q, apart-by q, r, a))
 
   -- where neither family is asked, both pass
   module _ (e : isQuadratic (familyOf s) ≡ false) (o : isCoupled (familyOf s) ≡ false) where
@@ -171,17 +170,15 @@ module _ (s : Set) where
         let z = couples-fit q in
         true≢false (sym (not-false _ e) ∙ apart-by q ∙ pairs.two-failed (couplesOf s) (z .0) (z .1) (h .1))
 
-    -- what it requires
-    pub couples-numbered : factorsIn s ≡ true → familyOf s ≡ Coupled → Numbered (couplesOf s)
-    couples-numbered t q =
-        let z = coupled-fit s m q in
-        record { size = omega (arith, z .0); small = omega (arith, z .1); below = couples-range q t }
+    -- what the tests require
+    pub squares-sized : familyOf s ≡ Quadratic → Sized true (couplesOf s)
+    squares-sized q = let z = squares-fit q in (z .0, z .1)
 
-    pub testable : factorsIn s ≡ true → Testable s
-    testable t = record {
-      squares-in = λ q. let z = squares-fit q in (z .0, z .1, factors-range q t .1 .1);
-      couples-in = couples-numbered t;
-    }
+    pub couples-sized : familyOf s ≡ Coupled → Sized false (couplesOf s)
+    couples-sized q = let z = coupled-fit s m q in (omega (arith, z .0), omega (arith, z .1))
+
+    pub couples-numbered : factorsIn s ≡ true → familyOf s ≡ Coupled → Numbered (couplesOf s)
+    couples-numbered t q = testable false (couplesOf s) (couples-sized q) (sym (in-by q) ∙ t)
 
 pub beside-told : (s : Set) → Told (List·Memᴰ (sizeOf s) listedSizes) (besideLines s) (besideSentences s)
 beside-told s =

@@ -3,6 +3,7 @@ pub mod Stream
 pub mod Numbered
 pub mod Fit
 pub mod Ranges
+pub mod Factored
 pub mod Beside
 pub mod Verdict
 pub mod Admits

@@ -1,9 +1,9 @@
 -- The range that the factors of the quadratic interleaver must have, as a sentence: f1 and f2 are from 1 to K - 1; and that the test of it says what the sentence
 -- does. (Of couples: specs/Test.antt of couples.)
 use Prim.Native.Nat.{ℕ, _≤_, _<_}
-use mathlib.Core.Bool.{Bool, true, false, _&&_}
+use mathlib.Core.Bool.{true, false, _&&_}
 use mathlib.Core.Logic.{_⊎_, inl, inr}
-use mathlib.Core.Path.{_≡_, refl}
+use mathlib.Core.Path.{_≡_}
 use native.Mathlib.Omega.{arith}
 use lib.Dec.{ltb}
 use borrow.Author.Tests.{ltb-true, ltb-false}

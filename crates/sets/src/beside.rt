@@ -1,55 +1,42 @@
-// What a set must have beside its size and stream: the factors of profiles 8 and 9.
+// What a set must have beside its size and stream: the factors of profiles 8 and 9. They are read from the record of couples: f1 and f2 of profile 8 are the
+// first two. `squares` says which of the two is asked: that of f1 and f2, or couples.
 use super::Ruled;
-use super::Set;
-use super::couples_of;
-use super::is_coupled;
-use super::is_quadratic;
-ghost use mathlib.Core.List.{List·Memᴰ};
+use couples::Couples;
 ghost use mathlib.Core.Path.{_≡_};
 ghost use Rattle.laws.specs.Outcome.{first};
-ghost use Rattle.sizes.specs.Tests.{listedSizes};
-ghost use Rattle.sets.specs.Set.{sizeOf};
-ghost use Rattle.sets.specs.Beside.{factorsIn, factorsApart, besideLines, Testable};
+ghost use Rattle.sets.specs.Factored.{rangeOf, apartOf, factorLines, Sized, Testable};
 ghost use Rattle.sets.specs.Verdict.{sayRuled};
 
-// The factors that the family reads are in their range: f1 and f2 from 1 to K - 1, P0 to P3 below N.
-fn factors_in(set: Set) -> bool
-    ensures { λ r. ⌜ r ≡ factorsIn set ⌝ }
+// The factors are in their range: f1 and f2 from 1 to K - 1, P0 to P3 below N.
+fn factors_in(squares: bool, c: Couples) -> bool
+    ensures { λ r. ⌜ r ≡ rangeOf squares c ⌝ }
 {
-    if is_quadratic(set) {
-        return quadratic::is_within(set.n, set.factors.first)
-            & quadratic::is_within(set.n, set.factors.second);
+    if squares {
+        return quadratic::is_within(c.n, c.p0) & quadratic::is_within(c.n, c.p1);
     }
-    if is_coupled(set) {
-        return couples::all_below(couples_of(set));
-    }
-    true
+    couples::all_below(c)
 }
 
 // No two positions share an address, no two outputs a couple. The factors have been tested.
-fn factors_apart(set: Set) -> bool
-    requires { ⌜ Testable set ⌝ }
-    ensures { λ r. ⌜ r ≡ factorsApart set ⌝ }
+fn factors_apart(squares: bool, c: Couples) -> bool
+    requires { ⌜ Testable squares c ⌝ }
+    ensures { λ r. ⌜ r ≡ apartOf squares c ⌝ }
 {
-    if is_quadratic(set) {
-        return quadratic::all_apart(set.n, set.factors.first, set.factors.second);
+    if squares {
+        return quadratic::all_apart(c.n, c.p0, c.p1);
     }
-    if is_coupled(set) {
-        return couples::all_apart(couples_of(set));
-    }
-    true
+    couples::all_apart(c)
 }
 
-// Which line of the factors applies first, of a set of a listed size: 11, 10. (Asked at two places, so that the compiler keeps it a function by itself: as a
-// part of the test it would have every call on a set load all four factors.)
-pub(super) fn ruling_of(set: Set) -> Ruled
-    requires { ⌜ List·Memᴰ (sizeOf set) listedSizes ⌝ }
-    ensures { λ r. ⌜ sayRuled r ≡ first (besideLines set) ⌝ }
+// Which line of the factors applies first, of a listed size: 11, 10.
+pub(super) fn ruling_of(squares: bool, c: Couples) -> Ruled
+    requires { ⌜ Sized squares c ⌝ }
+    ensures { λ r. ⌜ sayRuled r ≡ first (factorLines squares c) ⌝ }
 {
-    if !factors_in(set) {
+    if !factors_in(squares, c) {
         return Ruled::Stopped(11);
     }
-    if !factors_apart(set) {
+    if !factors_apart(squares, c) {
         return Ruled::Stopped(10);
     }
     Ruled::Clear

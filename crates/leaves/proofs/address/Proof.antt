@@ -10,38 +10,38 @@ address-requires : tie.Need-address-requires
 address-requires c κs =
     let i = c in
     let t = i .before in
-    (record { accepted = t .before .pre .0; which = the-turbo _ (sym (t .is-turbo .ensures) ∙ i .if1 .taken) }, t .before .pre .1)
+    (record { accepted = t .before .pre .0; which = the-spatial _ (sym (i .before .is-spatial .ensures) ∙ i .if1 .taken) }, t .before .pre .1)
 
 address-requires-2 : tie.Need-address-requires-2
 address-requires-2 c κs =
     let i = c in
     let t = i .before .before .before in
-    (record { accepted = t .before .pre .0; which = the-quadratic _ (sym (i .before .is-quadratic .ensures) ∙ i .if2 .taken) }, t .before .pre .1)
+    (record { accepted = t .before .pre .0; which = the-turbo _ (sym (i .before .is-turbo .ensures) ∙ i .if2 .taken) }, t .before .pre .1)
 
 address-requires-3 : tie.Need-address-requires-3
 address-requires-3 c κs =
     let i = c in
     let t = i .before .before .before .before .before in
-    (record { accepted = t .before .pre .0; which = the-coupled _ (sym (i .before .is-coupled .ensures) ∙ i .if3 .taken) }, t .before .pre .1)
+    (record { accepted = t .before .pre .0; which = the-quadratic _ (sym (i .before .is-quadratic .ensures) ∙ i .if3 .taken) }, t .before .pre .1)
 
 address-requires-4 : tie.Need-address-requires-4
 address-requires-4 c κs =
     let i = c in
     let t = i .before .before .before .before .before .before .before in
-    (record { accepted = t .before .pre .0; which = the-spatial _ (sym (i .before .is-spatial .ensures) ∙ i .if4 .taken) }, t .before .pre .1)
+    (record { accepted = t .before .pre .0; which = the-coupled _ (sym (i .before .is-coupled .ensures) ∙ i .if4 .taken) }, t .before .pre .1)
 
 address-requires-5 : tie.Need-address-requires-5
 address-requires-5 c κs =
     let i = c in
-    let p = i .before .before in
-    let q = p .before .before in
-    let t = q .before .before .before in (
+    let q = i .before .before in
+    let t = q .before .before in
+    let s = t .before .before .before in (
       record {
-        accepted = t .before .pre .0;
-        which = the-carrier _ (sym (t .is-turbo .ensures) ∙ q .before .before .if1 .left) (sym (i .before .is-spatial .ensures) ∙ i .if4 .left)
-            (sym (q .before .is-quadratic .ensures) ∙ q .if2 .left) (sym (p .before .is-coupled .ensures) ∙ p .if3 .left);
+        accepted = s .before .pre .0;
+        which = the-carrier _ (sym (t .before .is-turbo .ensures) ∙ t .if2 .left) (sym (s .is-spatial .ensures) ∙ t .before .before .if1 .left)
+            (sym (q .before .is-quadratic .ensures) ∙ q .if3 .left) (sym (i .before .is-coupled .ensures) ∙ i .if4 .left);
       },
-      t .before .pre .1,
+      s .before .pre .1,
     )
 
 pub address-spec : {M : Type 1} → statement M

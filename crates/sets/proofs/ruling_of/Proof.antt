@@ -1,17 +1,20 @@
 -- `sets::ruling_of` says which line applies first: each return by the tests that led there.
-use mathlib.Core.Bool.{true}
+use mathlib.Core.Bool.{true, false}
 use mathlib.Core.List.{List·Memᴰ}
-use mathlib.Core.Path.{_≡_, sym, _∙_}
+use mathlib.Core.Path.{_≡_, refl, sym, ap, subst, _∙_}
 use borrow.Author.Needs.{needs}
 use Rattle.laws.specs.Members.{fails, passes}
 use Rattle.laws.specs.Outcome.{first}
 use Rattle.sizes.specs.Tests.{listedSizes, profileListed, bitsListed, sizeListed}
 use Rattle.sizes.specs.Listed.{bits-small}
 use Rattle.sets.specs.declared.Set.{Set}
-use Rattle.sets.specs.Set.{sizeOf}
+use Rattle.couples.specs.declared.Couples.{Couples}
+use Rattle.profiles.specs.declared.Family.the-variants.{Quadratic, Coupled}
+use Rattle.sets.specs.Set.{sizeOf, familyOf, couplesOf}
 use Rattle.sets.specs.Stream.{streamListed}
-use Rattle.sets.specs.Beside.{besideLines, none-in, none-apart}
-use Rattle.sets.specs.Verdict.{setLines}
+use Rattle.sets.specs.Factored.{factorLines, Sized}
+use Rattle.sets.specs.Beside.{besideLines, the-quadratic, the-coupled, lines-by, none-in, none-apart, squares-sized, couples-sized}
+use Rattle.sets.specs.Verdict.{setLines, sayRuled, rulingOf}
 use Rattle.sizes.specs.Admits.{passing-listed}
 use Rattle.sets.proofs.ruling_of.Statement.{statement}
 use Rattle.sets.proofs.ruling_of.Tie as tie
@@ -75,20 +78,55 @@ beside e = let l = listed e in rw (l .0, l .1, l .2, stream-passed e)
 listed-size : (e : tie.Else4) → List·Memᴰ (sizeOf (asked e)) listedSizes
 listed-size e = let l = listed e in passing-listed (sizeOf (asked e)) (l .0) (l .1) (l .2)
 
+-- of the quadratic interleaver
+squared : (t : tie.Then5) → familyOf (asked (t .before .before)) ≡ Quadratic
+squared t = the-quadratic _ (sym (t .before .is-quadratic .ensures) ∙ t .if5 .taken)
+
+by-squares : (t : tie.Then5) {p : Couples} → p ≡ couplesOf (asked (t .before .before)) → first (factorLines true p) ≡ rulingOf (asked (t .before .before))
+by-squares t e =
+    ap (λ (p : Couples). first (factorLines true p)) e ∙ lines-by _ true (squared t) refl refl ∙ sym (beside (t .before .before))
+
 ruling-of-requires : tie.Need-ruling-of-requires
-ruling-of-requires c κs = listed-size (c .before .before)
+ruling-of-requires c κs =
+    let t = c .before in
+    subst (Sized true) (sym (c .couples-of .ensures)) (squares-sized _ (listed-size (t .before .before)) (squared t))
 
 returns-5 : tie.Need-returns-5
-returns-5 c = c .ruling-of .ensures ∙ sym (beside (c .before .before .before))
-
-ruling-of-requires-2 : tie.Need-ruling-of-requires-2
-ruling-of-requires-2 c κs = listed-size (c .before .before .before .before)
+returns-5 c =
+    let r = c .before .before .before in
+    ap sayRuled (sym (c .before .k .given .1)) ∙ r .ruling-of .ensures ∙ by-squares (r .before .before) (r .before .couples-of .ensures)
 
 returns-6 : tie.Need-returns-6
-returns-6 c = c .ruling-of2 .ensures ∙ sym (beside (c .before .before .before .before .before))
+returns-6 c =
+    let r = c .before .before in
+    ap sayRuled (sym (c .enum-told .given .1)) ∙ r .ruling-of .ensures ∙ by-squares (r .before .before) (r .before .couples-of .ensures)
+
+-- of couples
+coupled : (t : tie.Then6) → familyOf (asked (t .before .before .before .before)) ≡ Coupled
+coupled t = the-coupled _ (sym (t .before .is-coupled .ensures) ∙ t .if6 .taken)
+
+by-couples : (t : tie.Then6) {p : Couples} → p ≡ couplesOf (asked (t .before .before .before .before))
+    → first (factorLines false p) ≡ rulingOf (asked (t .before .before .before .before))
+by-couples t e =
+    ap (λ (p : Couples). first (factorLines false p)) e ∙ lines-by _ false (coupled t) refl refl ∙ sym (beside (t .before .before .before .before))
+
+ruling-of-requires-2 : tie.Need-ruling-of-requires-2
+ruling-of-requires-2 c κs =
+    let t = c .before in
+    subst (Sized false) (sym (c .couples-of2 .ensures)) (couples-sized _ (listed-size (t .before .before .before .before)) (coupled t))
 
 returns-7 : tie.Need-returns-7
 returns-7 c =
+    let r = c .before .before .before in
+    ap sayRuled (sym (c .before .k2 .given .1)) ∙ r .ruling-of2 .ensures ∙ by-couples (r .before .before) (r .before .couples-of2 .ensures)
+
+returns-8 : tie.Need-returns-8
+returns-8 c =
+    let r = c .before .before in
+    ap sayRuled (sym (c .enum-told2 .given .1)) ∙ r .ruling-of2 .ensures ∙ by-couples (r .before .before) (r .before .couples-of2 .ensures)
+
+returns-9 : tie.Need-returns-9
+returns-9 c =
     let q = c .before .before in
     let e = q .before .before in
     let n = sym (q .before .is-quadratic .ensures) ∙ q .if5 .left in
@@ -99,4 +137,5 @@ pub ruling-of-spec : {M : Type 1} → statement M
 ruling-of-spec =
     tie.close
     (tie.spec (λ c κs. search needs) returns (λ c κs. search needs) returns-2 size-listed-requires returns-3 (λ c κs. search needs) returns-4
-    (λ c κs. search needs) ruling-of-requires returns-5 (λ c κs. search needs) ruling-of-requires-2 returns-6 returns-7)
+    (λ c κs. search needs) (λ c κs. search needs) ruling-of-requires (λ c. search needs) returns-5 (λ c. search needs) returns-6 (λ c κs. search needs)
+    (λ c κs. search needs) ruling-of-requires-2 (λ c. search needs) returns-7 (λ c. search needs) returns-8 returns-9)

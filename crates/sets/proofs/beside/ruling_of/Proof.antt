@@ -1,7 +1,7 @@
 -- `sets::beside::ruling_of` says which line of the factors applies first: each return by the tests that led there.
 use borrow.Author.Needs.{needs}
 use Rattle.laws.specs.Members.{fails, passes}
-use Rattle.sets.specs.Beside.{testable}
+use Rattle.sets.specs.Factored.{testable}
 use Rattle.sets.proofs.beside.ruling_of.Statement.{statement}
 use Rattle.sets.proofs.beside.ruling_of.Tie as tie
 
@@ -9,7 +9,9 @@ returns : tie.Need-returns
 returns c = simp (fails (c .before .factors-in .ensures) (c .if1 .taken))
 
 factors-apart-requires : tie.Need-factors-apart-requires
-factors-apart-requires c κs = testable _ (c .before .before .pre) (passes (c .before .factors-in .ensures) (c .if1 .left))
+factors-apart-requires c κs =
+    let a = c .before .before in
+    testable (a .args .squares) (a .args .c) (a .pre) (passes (c .before .factors-in .ensures) (c .if1 .left))
 
 returns-2 : tie.Need-returns-2
 returns-2 c =
