@@ -57,6 +57,14 @@ INLINE uint32_t told(uint32_t from, uint32_t to, uint32_t count, uint32_t *cell,
     return 0;
 }
 
+/* The walk of a set whose cells are its addresses, by one that fills a room from a cell on. */
+#define WALK_BY(name, walk) \
+    uint32_t name(const struct set *set, uint32_t *cell, uint16_t *out, size_t room, uint32_t *written, uint32_t *cells) \
+    { \
+        uint32_t from = *cell, count = walk(set, from, out, room); \
+        return told(from, from + count, count, cell, written, cells); \
+    }
+
 /* A block by its table. size is 1 or 4, a constant where this is used; a memcpy of so many bytes is one load and one store. */
 INLINE void gather(const uint16_t *table, uint32_t n, size_t size, const uint8_t *restrict src, uint8_t *restrict dst)
 {

@@ -8,7 +8,7 @@ INLINE uint32_t offset_of(const struct set *set, uint32_t b)
     return b == 0 ? 1 : b == 1 ? 1 + set->n / 2 + p[1] : b == 2 ? 1 + p[2] : 1 + set->n / 2 + p[3];
 }
 
-/* P(j), as the formula has it: below 2,400 * 2,400 and Q, so 32 bits do. */
+/* P(j), as the formula has it. The sum is below 2,400 * 2,400, so 32 bits do. */
 INLINE uint32_t couple_of(uint32_t n, uint32_t p0, const uint32_t *q, uint32_t j) { return (p0 * j + q[j % 4]) % n; }
 
 INLINE uint32_t divide_from(const struct set *set, uint32_t cell, uint16_t *restrict out, size_t room)
@@ -37,14 +37,8 @@ INLINE uint32_t step_from(const struct set *set, uint32_t cell, uint16_t *restri
     return count;
 }
 
-#define WALK(name, walk) \
-    uint32_t name(const struct set *set, uint32_t *cell, uint16_t *out, size_t room, uint32_t *written, uint32_t *cells) \
-    { \
-        uint32_t from = *cell, count = walk(set, from, out, room); \
-        return told(from, from + count, count, cell, written, cells); \
-    }
-WALK(divide_couples, divide_from)
-WALK(step_couples, step_from)
+WALK_BY(divide_couples, divide_from)
+WALK_BY(step_couples, step_from)
 
 /* Output couple j, from couple c: an odd one is swapped. */
 INLINE void move_couple(size_t size, const uint8_t *restrict src, uint32_t c, uint8_t *restrict dst, uint32_t j)

@@ -32,14 +32,8 @@ INLINE uint32_t step_from(const struct set *set, uint32_t cell, uint16_t *restri
     return count;
 }
 
-#define WALK(name, walk) \
-    uint32_t name(const struct set *set, uint32_t *cell, uint16_t *out, size_t room, uint32_t *written, uint32_t *cells) \
-    { \
-        uint32_t from = *cell, count = walk(set, from, out, room); \
-        return told(from, from + count, count, cell, written, cells); \
-    }
-WALK(divide_lte, divide_from)
-WALK(step_lte, step_from)
+WALK_BY(divide_lte, divide_from)
+WALK_BY(step_lte, step_from)
 
 /* Block moves: dividing straight by the formula, stepping by a table. */
 INLINE uint32_t divide_move(const struct set *set, size_t size, const uint8_t *restrict src, uint8_t *restrict dst)

@@ -7,10 +7,11 @@
        if (interleaver_interleave_bytes(&set, in, 192, out, 192) != INTERLEAVER_DONE)
            return -1;
 
-   Every call but interleaver_fitting gives 0 when it is done, else the number of its first refusal, in the order in which its comment lists them; a refused
-   call leaves every buffer and every out-parameter as it was. L is the list of input indices in output order, M its inverse: interleaving gives
-   out[t] = in[L(t)], deinterleaving out[L(t)] = in[t]. Of profile 9 the indices of L and M are those of couples: see interleaver_set_wimax. A buffer is a
-   pointer and the number of its elements.
+   Every call of the archive but interleaver_fitting gives 0 when it is done, else the number of its first refusal, in the order in which its comment
+   lists them (the functions that are written out here make a set, or count its symbols, and refuse nothing); a refused call leaves every buffer and
+   every out-parameter as it was. L is the list of input indices in output order, M its inverse: interleaving gives out[t] = in[L(t)], deinterleaving
+   out[L(t)] = in[t]. Of profile 9 the indices of L and M are those of couples: see interleaver_set_wimax. A buffer is a pointer and the number of its
+   elements.
 
    The caller sees to it that no pointer is null (not even of a buffer of length 0), that each points to as much memory as its length says,
    and that nothing a call writes overlaps anything else it is given; and, where receptions are added, that floating point rounds to nearest, keeps denormals
@@ -98,7 +99,7 @@ typedef struct interleaver_stream {
 #define INTERLEAVER_PLANS 16u         /* a plan file has 1 to so many plans */
 #define INTERLEAVER_PLAN_BYTES 65536u /* and at most so many bytes */
 
-/* What a call but interleaver_fitting gives back: INTERLEAVER_DONE, or why it was refused. No call gives 8. */
+/* What a call of the archive but interleaver_fitting gives back: INTERLEAVER_DONE, or why it was refused. No call gives 8. */
 #define INTERLEAVER_DONE 0u
 #define INTERLEAVER_PROFILE 1u   /* the profile isn't 1 to 9, or it is 5, 8 or 9 and the call is the walk for M, or it is 9 and the call is on receptions,
                                     or it is above 5 and a plan file's */

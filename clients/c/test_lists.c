@@ -12,7 +12,7 @@ int walks_whole(interleaver_set set, const uint16_t *l) {
            cells == set.n && memcmp(out, l, 2 * set.n) == 0 && out[set.n] == 0xeeee;
 }
 
-/* walks that are refused, and change nothing. A first factor of 2, or of 0, is one that gives two positions one address */
+/* walks that are refused, and change nothing. A first factor of 2 (profile 8) or of 0 (profile 9) gives two positions one address */
 static int refuses(interleaver_set set, uint32_t cell, uint16_t *out, size_t room) {
     interleaver_set shared = set, large = set;
     uint32_t past = set.n + 1, written = 9, cells = 9, from = cell;

@@ -62,7 +62,7 @@ static void every_size(void) {
     EXPECT(fit > 3000 && unfit > 3000);
 }
 
-/* numbers of a set: 11 before 10, 16 before both, 3 before that, then 2. A P0 of 0 is below N, and gives one couple to many */
+/* the order of a set's refusals: 2, 3, 16, 11, 10, and 1 before all of them. A P0 of 0 is below N, and gives one couple to many outputs */
 static void numbers(void) {
     static const struct {
         uint32_t bits, n, stream, p[4], number;

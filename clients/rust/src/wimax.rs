@@ -3,9 +3,10 @@
 use super::{Refusal, Set};
 
 impl Set {
-    /// The set of profile 9 for a block of `n` couples, 2·n symbols, tested. Couple c is symbols 2c, its A, and 2c + 1, its B. First the odd-numbered couples
-    /// swap A and B; then output couple j is couple L(j) = (P0·j + Q) mod n, where Q is 1, 1 + n/2 + P1, 1 + P2, 1 + n/2 + P3 for j mod 4 = 0, 1, 2, 3.
-    /// Positions and addresses are those of couples. The sizes are the multiples of 4 from 24 to 2,400.
+    /// The set of profile 9 for a block of `n` couples, 2·n symbols, tested: `numbers` are P0, P1, P2 and P3, [`Refusal::Factors`] where one isn't below `n`,
+    /// then [`Refusal::Shared`] where two outputs would share a couple. Couple c is symbols 2c, its A, and 2c + 1, its B. First the odd-numbered couples swap
+    /// A and B; then output couple j is couple L(j) = (P0·j + Q) mod n, where Q is 1, 1 + n/2 + P1, 1 + P2, 1 + n/2 + P3 for j mod 4 = 0, 1, 2, 3. Positions
+    /// and addresses are those of couples. The sizes are the multiples of 4 from 24 to 2,400.
     ///
     /// ```
     /// use interleaver::{Refusal, Set};

@@ -10,7 +10,7 @@ use laws::Leaf;
 use laws::Way;
 use sets::Set;
 
-// Whether a walk is not had: M of a family whose M is not walked.
+// Whether a walk is not had: that for M of the turbo interleaver, of the quadratic one and of couples.
 pub fn is_barred(way: Way, set: Set) -> bool
     ensures { λ r. ⌜ r ≡ barred way (familyOf set) ⌝ }
 {
@@ -22,7 +22,7 @@ pub fn is_barred(way: Way, set: Set) -> bool
     }
 }
 
-// The walk of an accepted set, by family: 1 where it is not had.
+// The walk of an accepted set, by family: 1 where it is not had, then 9 where the cell is past the total.
 pub fn walk(way: Way, set: Set, cell: usize, out: &mut [u16]) -> Leaf
     requires { ⌜ Accepted set ⌝ }
     ensures { λ r. ⌜ WalkLeaf way set cell (now (out .entry)) (now (out .exit)) r ⌝ }

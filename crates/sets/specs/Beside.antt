@@ -1,6 +1,6 @@
 -- What a set must have beside a listed size and stream, change requests 6 and 12. The quadratic interleaver: two numbers f1 and f2 from 1 to K - 1, and no two
 -- positions that share an address. Couples: four numbers P0 to P3 below N, and no two outputs that share a couple. Every other: nothing. The tests, the
--- sentences of 11 and 10, and that the one says what the other does. Rests on Ranges and Factored.
+-- sentences of 11 and 10, and that the tests say what the sentences do. Rests on Ranges and Factored.
 use Prim.Native.Nat.{_%_, _<_}
 use mathlib.Core.Bool.{Bool, true, false, not, true≢false, false≢true}
 use mathlib.Core.List.{List, [], _∷_, List·Memᴰ}
@@ -107,7 +107,7 @@ module _ (s : Set) where
       → first (factorLines b (couplesOf s)) ≡ first (besideLines s)
   lines-by b q r a = sym (rw (in-by q, apart-by q, r, a))
 
-  -- where neither family is asked, both pass
+  -- where the set is of neither family, both tests pass
   module _ (e : isQuadratic (familyOf s) ≡ false) (o : isCoupled (familyOf s) ≡ false) where
     pub none-in : true ≡ factorsIn s
     unfolding factorsIn

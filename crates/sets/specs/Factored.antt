@@ -1,5 +1,5 @@
--- The tests of the factors of the two families that read some, change requests 6 and 12, over the record of couples: f1 and f2 of the quadratic interleaver
--- are its first two numbers. `true` is the quadratic interleaver, `false` couples. Rests on nothing but the tests of the two.
+-- The tests of the factors of the two families that read some, change requests 6 and 12, over the record of couples: K of the quadratic interleaver is its n,
+-- f1 and f2 are its p0 and p1. `true` is the quadratic interleaver, `false` couples. Rests on Ranges, and on the formulas and tests of the two.
 use Prim.Native.Nat.{_<_}
 use mathlib.Core.Bool.{Bool, true, false, not, _&&_}
 use mathlib.Core.List.{List, [], _∷_}
@@ -26,7 +26,7 @@ apartOf false c = couple.allApart c
 abbrev pub factorLines : Bool → Couples → List Line
 factorLines b c = line 11 (not (rangeOf b c)) ∷ line 10 (not (apartOf b c)) ∷ []
 
--- what the tests require of the size, and that of the addresses of the factors too
+-- what the tests require of the size; and what the test for 10 requires beside that, of the factors
 abbrev pub Sized : Bool → Couples → Type 0
 Sized true c = (0 < c .n) × (c .n < 65536)
 Sized false c = (0 < c .n) × (c .n < 8192)

@@ -1,5 +1,5 @@
-// What a set must have beside its size and stream: the factors of profiles 8 and 9. They are read from the record of couples: f1 and f2 of profile 8 are the
-// first two. `squares` says which of the two is asked: that of f1 and f2, or couples.
+// What a set must have beside its size and stream: the factors of profiles 8 and 9. Both are asked over the record of couples: of profile 8, K is its n, f1
+// and f2 are its p0 and p1. `squares` is true for profile 8, false for profile 9.
 use super::Ruled;
 use couples::Couples;
 ghost use mathlib.Core.Path.{_≡_};
@@ -17,7 +17,7 @@ fn factors_in(squares: bool, c: Couples) -> bool
     couples::all_below(c)
 }
 
-// No two positions share an address, no two outputs a couple. The factors have been tested.
+// No two positions share an address, no two outputs a couple. The range of the factors has been tested.
 fn factors_apart(squares: bool, c: Couples) -> bool
     requires { ⌜ Testable squares c ⌝ }
     ensures { λ r. ⌜ r ≡ apartOf squares c ⌝ }

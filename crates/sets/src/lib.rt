@@ -119,7 +119,7 @@ pub fn is_coupled(set: Set) -> bool
     }
 }
 
-// N couples, and P0 to P3.
+// N and the four factors, as the record of couples: P0 to P3 of profile 9. (Of profile 8 its n is K, p0 and p1 are f1 and f2.)
 pub fn couples_of(set: Set) -> Couples
     ensures { λ r. ⌜ r ≡ couplesOf set ⌝ }
 {
@@ -172,7 +172,8 @@ fn stream_listed(set: Set) -> bool
 }
 
 // Which line of the test applies first: 1, 2, 3, 16, 11, 10, in that order, and nothing more. (`rulings-apart` in specs/Verdict.antt: what is said leaves
-// one answer. The answers of `beside` are given anew: handed on as they are, the compiler would make every call on a set some seven instructions dearer.)
+// one answer. The answers of `beside` are given anew: if they were handed on as they are, the compiler would make every call on a set some seven
+// instructions dearer.)
 pub fn ruling_of(set: Set) -> Ruled
     ensures { λ r. ⌜ sayRuled r ≡ rulingOf set ⌝ }
 {
