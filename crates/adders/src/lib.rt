@@ -1,5 +1,7 @@
 // Repeated receptions added up, by a table of addresses: two lengths asked as one, the loop that judges a received block against what is stored, and the
 // loop that adds it. Whoever calls the loops has filled the table and judged the lengths. No value decides where anything goes.
+#![tactic(auto)]
+
 ghost use Rattle.std.specs.Prelude.{◌≡◌, length};
 ghost use Rattle.laws.specs.Loop.{by};
 ghost use Rattle.laws.specs.Outcome.{first};

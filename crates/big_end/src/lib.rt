@@ -1,5 +1,7 @@
 // Numbers in bytes, big end first: of 4 bytes, as headers have them, and of 2, as addresses are. Inner functions: whoever calls them has tested that the
 // bytes are there.
+#![tactic(auto)]
+
 ghost use Rattle.std.specs.Prelude.{◌≡◌, ◌+◌, ◌≤◌, ◌<◌, length};
 ghost use Rattle.std.proofs.lemmas.List.Edits.{sets};
 ghost use Rattle.big_end.specs.Numbers.{number_at, pair_at, number_bytes, pair_bytes};

@@ -1,4 +1,6 @@
 // A burst in the channel of DVB or ATSC, for a person: where each of its bytes comes out of the deinterleaver, and how far apart.
+#![tactic(auto)]
+
 pub mod page; // page.rt: as a table
 pub mod picture; // picture.rt: as an SVG
 

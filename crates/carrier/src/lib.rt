@@ -1,5 +1,7 @@
 // The carrier interleaver over d, N and s, and its third step: the formulas, in specs, and what the walks for L and for M share. An inner crate: who
 // calls `turn_of` has tested the stream.
+#![tactic(auto)]
+
 ghost use Rattle.std.specs.Prelude.{◌≡◌, ◌*◌, ◌≤◌, ◌<◌};
 ghost use Rattle.carrier.specs.Third.{turn};
 

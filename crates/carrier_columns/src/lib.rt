@@ -1,5 +1,7 @@
 // M: one address, and the walk, a column of the input at a time. The walk divides when it is set up and never after. The
 // public functions are leaf functions: the crate above them tests a set first, and shows what they require.
+#![tactic(auto)]
+
 ghost use Rattle.std.specs.Prelude.{◌≡◌, ℕ, ◌+◌, ◌/◌, ◌%◌, ◌<◌};
 ghost use Rattle.laws.specs.Sized.{Sized};
 ghost use Rattle.laws.specs.Lanes.{Ran};
@@ -30,7 +32,7 @@ fn up_by_one(low: usize, s: usize) -> usize
 
 // Where the walk for M stands in a column. Its address is base + turn: base without the turn, low the column's place in its group of s,
 // turn the turned place.
-#[derive(Drop)]
+#[derive(Clone, Copy)]
 struct ColumnSpot {
     base: usize,
     low: usize,

@@ -1,5 +1,7 @@
 // L: one address, and the walk, a row of the output at a time. The walk divides when it is set up and never after. The
 // public functions are leaf functions: the crate above them tests a set first, and shows what they require.
+#![tactic(auto)]
+
 ghost use Rattle.std.specs.Prelude.{◌≡◌, ℕ, ◌+◌, ◌-◌, ◌*◌, ◌/◌, ◌%◌, ◌<◌};
 ghost use Rattle.laws.specs.Sized.{Sized};
 ghost use Rattle.laws.specs.Lanes.{Ran};
@@ -23,7 +25,7 @@ fn lift_up(lift: usize, d: usize, top: usize) -> usize
 
 // Where the walk for L stands in a row. Its address is base + lift: base without the turn, low the column's place in its group of s, lift
 // the turned place times d.
-#[derive(Drop)]
+#[derive(Clone, Copy)]
 struct RowSpot {
     base: usize,
     low: usize,

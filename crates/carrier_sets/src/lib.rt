@@ -1,4 +1,6 @@
 // An accepted set of the carrier family: its d, N and s, and the leaf that is asked.
+#![tactic(auto)]
+
 ghost use Rattle.std.specs.Prelude.{◌≡◌, ◌<◌};
 ghost use Rattle.profiles.specs.declared.Family.TheVariants.{Carrier};
 ghost use Rattle.families.specs.Rules.{rule_in};

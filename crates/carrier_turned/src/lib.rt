@@ -2,6 +2,8 @@
 // the two steps from the cell that lies the turn ahead, in two pieces where it passes N, since there it begins again at 0. M is the walk for M of
 // the two steps, and a pass over what it wrote that takes the turn off. A walk divides when it is set up, and never after. The public
 // functions are leaf functions: the crate above them tests a set first, and shows what they require.
+#![tactic(auto)]
+
 ghost use Rattle.std.specs.Prelude.{◌≡◌, ℕ, ◌+◌, ◌-◌, ◌%◌, ◌<◌};
 ghost use Rattle.laws.specs.Fill.{Filled};
 ghost use Rattle.laws.specs.Lanes.{Ran};
@@ -13,7 +15,7 @@ use laws::Leaf;
 use residues::least;
 
 // A block of a spatial stream: d, N and s of the two steps, and bits, r and the stream of the third.
-#[derive(Drop)]
+#[derive(Clone, Copy)]
 pub struct Stream {
     pub d: usize,
     pub n: usize,

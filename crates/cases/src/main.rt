@@ -1,5 +1,7 @@
 // The cases of document 01 that no proved table states, two lists of request 4 and one of requests 6 and 12 each that are worked by hand, and some
 // refusals, by the public calls: each is printed with its outcome.
+#![tactic(auto)]
+
 mod couples;
 mod looks;
 mod nothing;

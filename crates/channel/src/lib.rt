@@ -1,5 +1,7 @@
 // Where the bytes of a burst in the channel come out of the deinterleaver of a kind, and the least distance between any two of them. The burst
 // begins at channel byte `at`, counted from the start of the machine; its bytes are counted from 0. An unknown kind is taken for ATSC.
+#![tactic(auto)]
+
 ghost use Rattle.std.specs.Prelude.{◌≡◌, ◌+◌, ◌-◌, ◌≤◌, ◌<◌, min};
 ghost use Rattle.kinds.specs.Kinds.{place_in};
 ghost use Rattle.channel.specs.Nearest.{delay_of, apart, nearest_before, nearest_of};

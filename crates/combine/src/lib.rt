@@ -1,6 +1,8 @@
 // Repeated receptions of a block added up. Lent are the stored sums and the counts of receptions, N of each, by input index; a newly received block
 // in output order, and a presence byte for each of its values. Zero is a value: whether there is one is said by the presence byte and by the count
 // alone.
+#![tactic(auto)]
+
 ghost use Rattle.std.specs.Prelude.{◌≡◌, ◌≤◌, length};
 ghost use Rattle.positions.specs.Heard.{reception, kept};
 ghost use Rattle.laws.specs.Outcome.{done};
@@ -14,7 +16,7 @@ use sets::{Refusal, Ruled, Set};
 use tables::{LARGE, MIDDLE, Moved, SMALL};
 
 // What stands at a position: a soft value, which is the running sum and how many values it is of; or a blank, where the count is 0.
-#[derive(Drop)]
+#[derive(Clone, Copy)]
 pub enum Reading {
     Soft(Running),
     Blank,

@@ -3,7 +3,7 @@
 use crate::num::sum;
 use libc::STDOUT_FILENO;
 
-#[derive(Drop)]
+#[derive(Clone, Copy)]
 pub struct Count {
     pub sets: u64,
     pub calls: u64,
@@ -88,7 +88,7 @@ pub fn last_line(n: u64) {
 }
 
 // How many sets were tried, how many of them were accepted, and at how many the test gave another number than trying.
-#[derive(Drop)]
+#[derive(Clone, Copy)]
 pub struct Tried {
     pub sets: u64,
     pub accepted: u64,

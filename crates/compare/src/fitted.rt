@@ -7,7 +7,7 @@ use sets::{Refusal, Set, Verdict};
 
 // The size that was listed last; how many were refused with 3, how many of these carried 0, what they carried in all, and at how many refusals it was
 // another size than expected.
-#[derive(Drop)]
+#[derive(Clone, Copy)]
 struct Run {
     last: u32,
     sizes: u64,

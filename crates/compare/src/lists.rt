@@ -10,7 +10,7 @@ use sets::Set;
 
 // How a list is made: right; or wrong on purpose, one place off, without the exchange at full rectangles, with no stream turned, with t for t², with
 // P1 in the third case, or with the even-numbered couples swapped.
-#[derive(Drop)]
+#[derive(Clone, Copy)]
 pub enum Made {
     Right,
     Off,

@@ -7,6 +7,8 @@
 // and 7 on their lists with no stream turned, to count those that are; those of 8 on their lists with t for t², and its test with f1 and f2
 // exchanged; those of 9 on their lists with P1 in the third case, a block with the even-numbered couples swapped, and its test with P1 and P2
 // exchanged; the sizes that are carried, on the greatest listed ones below; and the padding report, on the lists of the next sizes.
+#![tactic(auto)]
+
 mod chosen;
 mod count;
 mod decided;

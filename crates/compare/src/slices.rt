@@ -7,7 +7,7 @@ use second::{ENDS, Whole};
 use walks::{Walk, Walked};
 
 // A walk part way: its record, how many addresses it has given, whether it is over, and what was counted.
-#[derive(Drop)]
+#[derive(Clone, Copy)]
 pub struct Going {
     pub walk: Walk,
     pub given: usize,

@@ -1,5 +1,7 @@
 // The couples of the convolutional turbo code of IEEE 802.16: the formula, in specs, and the tests of its four numbers. Whether two outputs would share
 // a couple is decided by a greatest common divisor and four remainders, and no output is tried. An inner crate: the test of a set shows what is required.
+#![tactic(auto)]
+
 ghost use Rattle.std.specs.Prelude.{◌≡◌, ◌<◌};
 ghost use Rattle.couples.specs.Formula.{offset, turn, differ, turns_differ, all_below, all_apart};
 ghost use Rattle.couples.specs.Test.{Numbered};
@@ -7,7 +9,7 @@ ghost use Rattle.couples.specs.Test.{Numbered};
 use residues::gcd_of;
 
 // The numbers of a block: N, how many couples it has, and P0 to P3.
-#[derive(Drop)]
+#[derive(Clone, Copy)]
 pub struct Couples {
     pub n: u32,
     pub p0: u32,

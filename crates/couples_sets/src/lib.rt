@@ -1,4 +1,6 @@
 // An accepted set of couples: its N and P0 to P3, and the leaf that is asked. M is not walked.
+#![tactic(auto)]
+
 ghost use Rattle.std.specs.Prelude.{◌≡◌, ◌<◌};
 ghost use Rattle.profiles.specs.declared.Family.TheVariants.{Coupled};
 ghost use Rattle.families.specs.Rules.{rule_in};

@@ -1,6 +1,8 @@
 // The walk of the couples of IEEE 802.16: the walk for P from any cell, one couple either way, and the table of couples spread to that of their
 // symbols. P at the cell and the four steps behind it are worked out once a call, by division; after that each step is one sum, which takes N off at
 // most once. The public functions are leaf functions: the crate above them tests a set first, and shows what they require.
+#![tactic(auto)]
+
 pub mod symbols; // symbols.rt: from couples to symbols
 
 ghost use Rattle.std.specs.Prelude.{◌≡◌, List, ℕ, ◌+◌, ◌≤◌, ◌<◌, length};
@@ -36,7 +38,7 @@ fn step_from(couples: Couples, j: u32) -> u32
 
 // Where a walk stands: the couple, and how much more, modulo N, each of the next four is than the one before it. The fifth is as much more as the
 // first, and so on.
-#[derive(Drop)]
+#[derive(Clone, Copy)]
 struct Spot {
     value: usize,
     first: usize,

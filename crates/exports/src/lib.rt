@@ -1,5 +1,7 @@
 // The calls for C and Rust: a parameter set is its numbers in a row, an answer is 0 or the number of a refusal (but for `interleaver_fitting`, which gives a
 // size), and what else a call says goes through its out-parameters, which a refused call leaves as they are. Nothing is decided here.
+#![tactic(auto)]
+
 pub mod gateways; // gateways.rt: several byte machines in one store
 pub mod lists; // lists.rt: the test of a set, the size that would have fitted, LTE's own factors, addresses, walks
 pub mod report; // report.rt: the padding report of WCDMA's turbo interleaver

@@ -4,7 +4,7 @@ ghost use Rattle.std.specs.Prelude.{◌≤◌};
 use super::{plus, standards};
 
 // How many bytes of bursts were found, how many of them not at their place, and the least distance of two of one burst.
-#[derive(Drop)]
+#[derive(Clone, Copy)]
 pub struct Seen {
     pub found: u64,
     pub wrong: u64,

@@ -116,7 +116,7 @@ fn kept(k: usize, handed: Stream, s: Stream) -> Stream {
 }
 
 // A machine part way: its record, how many bytes it took, and its tally.
-#[derive(Drop)]
+#[derive(Clone, Copy)]
 pub struct Going {
     pub s: Stream,
     pub at: usize,

@@ -5,7 +5,7 @@ use super::standards;
 use super::standards::rest;
 
 // What bytes went through: an interleaver, a deinterleaver, or the one and then the other.
-#[derive(Drop)]
+#[derive(Clone, Copy)]
 pub enum Path {
     There,
     Back,

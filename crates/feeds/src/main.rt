@@ -2,6 +2,8 @@
 // every ring turns three times or more. Every byte is compared with the closed form, which divides and shares nothing with
 // the feed. Once from a start, and once from a record in the middle, with a filled store. Then bursts in the channel of a deinterleaver, from each
 // byte of two turns on: each byte is looked for in what comes out, and its place compared with where its queue lets it out.
+#![tactic(auto)]
+
 mod bursts; // bursts.rt: bursts, and where they are found again
 mod calls; // calls.rt: calls on one machine, done and refused
 mod closed; // closed.rt: what is fed, and what must come out
@@ -22,7 +24,7 @@ fn plus(a: u64, b: u64) -> u64 {
 }
 
 // How a machine begins: from a start or in the middle, with a store full of f.
-#[derive(Drop)]
+#[derive(Clone, Copy)]
 pub struct Begun {
     pub kind: u32,
     pub middle: bool,

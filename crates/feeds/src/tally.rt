@@ -1,7 +1,7 @@
 // How often a machine was called, refused with 7, 9, 6 or anything else, and how many bytes it took.
 use super::plus;
 
-#[derive(Drop)]
+#[derive(Clone, Copy)]
 pub struct Tally {
     pub calls: u64,
     pub seven: u64,

@@ -9,7 +9,7 @@ pub const PLACES: usize = 160;
 const START: usize = 152;
 
 // A number of 24 bits, to be doubled and halved so many times.
-#[derive(Drop)]
+#[derive(Clone, Copy)]
 struct Scaled {
     whole: u32,
     up: u32,

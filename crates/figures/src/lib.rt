@@ -1,4 +1,6 @@
 // Soft values as a program meets them: in the files that its arguments name, four bytes each, and in decimal.
+#![tactic(auto)]
+
 pub mod decimal; // decimal.rt: an f32 in decimal, exactly
 mod bytes; // bytes.rt: the bytes of a file
 mod values; // values.rt: the values of a reception, and which are there
@@ -13,7 +15,7 @@ pub const VALUES: usize = 6145;
 const BYTES: usize = 24580;
 
 // So many, or none, which has been said.
-#[derive(Drop)]
+#[derive(Clone, Copy)]
 pub enum Got {
     Of(usize),
     Failed,

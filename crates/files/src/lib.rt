@@ -1,4 +1,6 @@
 // The bytes of a file that an argument names. What fails is answered, and said by whoever asked.
+#![tactic(auto)]
+
 ghost use Rattle.std.specs.Prelude.{length};
 ghost use Rattle.files.specs.Got.{Within};
 
@@ -6,7 +8,7 @@ ghost use Rattle.files.specs.Got.{Within};
 pub const PATH: usize = 1024;
 
 // So many bytes; or the argument is no path, the file can't be opened, or a read fails.
-#[derive(Drop)]
+#[derive(Clone, Copy)]
 pub enum Got {
     Of(usize),
     Unnamed,

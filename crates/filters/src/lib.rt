@@ -1,6 +1,8 @@
 // Standard input to standard output: blocks of symbols, and byte streams. A turn of each loop is a function of its own, over slices that are
 // lent once. The loops over the input end by a budget that counts down from the largest u64, which no input meets; a
 // block's, by its length.
+#![tactic(auto)]
+
 pub mod blocked; // blocked.rt: block after block
 pub mod streamed; // streamed.rt: a byte stream, in whatever lengths reads give
 

@@ -6,7 +6,7 @@ use laws::Way;
 use streams::Said;
 
 // How a turn ended: whether to go on, and the record.
-#[derive(Drop)]
+#[derive(Clone, Copy)]
 struct Going {
     on: bool,
     stream: Stream,

@@ -1,5 +1,7 @@
 // The size that would have fitted: the least listed N not below the one asked for, worked out by the form of the profile's sizes. No list is searched:
 // of five doublings the next is taken, multiples are rounded up, and of a range it is the first number, or N itself.
+#![tactic(auto)]
+
 ghost use Rattle.std.specs.Prelude.{true, ◌&&◌, ◌≡◌, max, ◌<◌, leb, eqb};
 ghost use Rattle.laws.specs.Members.{one_of, multiple};
 ghost use Rattle.laws.specs.Next.{Next};

@@ -1,5 +1,7 @@
 // An answer taken apart for C: what is lent becomes a set or a record, and what is answered becomes a number, 0 where the call is done, and
 // out-parameters, which a refused call leaves as they are.
+#![tactic(auto)]
+
 pub mod records; // records.rt: the record of a byte stream
 
 ghost use Rattle.std.specs.Prelude.{◌≡◌, ℕ};

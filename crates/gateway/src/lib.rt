@@ -1,5 +1,7 @@
 // A shore gateway: up to eight byte machines in one lent store, a header and then the machines' shares. Every call tests the whole store's form first. Vessels are
 // counted from 0; the header is of numbers of 4 bytes, big end first, and directions are 1 for interleaving and 2 for the other.
+#![tactic(auto)]
+
 pub mod laying; // laying.rt: a store laid out
 
 ghost use Rattle.std.specs.Prelude.{◌≡◌, true, ◌<◌, length};
@@ -11,7 +13,7 @@ use gateway_form::ENTRY;
 use streams::Said;
 
 // Where a vessel's share stands in the store, or why there is none.
-#[derive(Drop)]
+#[derive(Clone, Copy)]
 pub enum Place {
     At { offset: u32, length: u32 },
     Refused(u32),

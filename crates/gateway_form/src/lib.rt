@@ -1,5 +1,7 @@
 // The form of a gateway's store, and what its header says. Inner functions, but for the test of the form: whoever calls the others has tested that what they
 // read is there. Vessels are counted from 0.
+#![tactic(auto)]
+
 pub mod entries; // entries.rt: an entry stored
 pub mod limits; // limits.rt: the ranges of its places
 

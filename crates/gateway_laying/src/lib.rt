@@ -1,4 +1,6 @@
 // A gateway's store laid out from lists of kinds, directions and fill bytes. Inner functions: whoever calls them has counted the machines.
+#![tactic(auto)]
+
 ghost use Rattle.std.specs.Prelude.{◌≡◌, ◌≤◌, [], ◌∷◌, length, ℕ};
 ghost use Rattle.std.proofs.lemmas.List.Edits.{sets};
 ghost use Rattle.laws.specs.Members.{chained, every};
@@ -13,7 +15,7 @@ use kinds::Stream;
 use kinds::sizes::Sizes;
 
 // How many bytes a store has, or why there is none.
-#[derive(Drop)]
+#[derive(Clone, Copy)]
 pub enum Length {
     Bytes(u32),
     Refused(u32),

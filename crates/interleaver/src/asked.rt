@@ -15,21 +15,21 @@ const OF_24: Factors = Factors {
 };
 
 // A parameter set, or none, which has been told.
-#[derive(Drop)]
+#[derive(Clone, Copy)]
 pub enum SetAsked {
     Given(Set),
     Wrong,
 }
 
 // The factors of a set, or none, which has been told.
-#[derive(Drop)]
+#[derive(Clone, Copy)]
 enum FactorsAsked {
     Given(Factors),
     Wrong,
 }
 
 // A burst, or none, which has been told.
-#[derive(Drop)]
+#[derive(Clone, Copy)]
 pub enum BurstAsked {
     Given { at: u32, length: u32 },
     Wrong,

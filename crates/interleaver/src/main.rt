@@ -1,5 +1,7 @@
 // The command line: words and numbers in, the answers of the proved libraries out. The loops here are over the questions of the command `lines`
 // and over named words; the others are in the crates below.
+#![tactic(auto)]
+
 mod asked; // asked.rt: the numbers of a command
 mod commands; // commands.rt: the commands by name, and their form
 mod names; // names.rt: the numbers that have names

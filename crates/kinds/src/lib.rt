@@ -1,4 +1,6 @@
 // The record of a byte machine, and the two kinds of machine by their numbers: 1 is DVB, 2 is ATSC. Nothing is lent here, and nothing refused.
+#![tactic(auto)]
+
 pub mod sizes; // sizes.rt: the numbers of a kind
 
 ghost use Rattle.std.specs.Prelude.{◌≡◌, ◌+◌, ◌-◌, ◌*◌, ◌%◌, ◌≤◌, ◌<◌, length, get_or};
@@ -9,7 +11,7 @@ use laws::Way;
 use sizes::Sizes;
 
 // The record: the kind, the branch of the next byte, and the place of each ring, in rising ring size. Those of rings that the kind lacks are 0.
-#[derive(Drop)]
+#[derive(Clone, Copy)]
 pub struct Stream {
     pub kind: u32,
     pub branch: u32,

@@ -7,7 +7,7 @@ use crate::Stream;
 use laws::Way;
 
 // How many branches, bytes of a step and bytes of the store.
-#[derive(Drop)]
+#[derive(Clone, Copy)]
 pub struct Sizes {
     pub branches: usize,
     pub step: usize,

@@ -1,5 +1,7 @@
 // Which leaf is asked for the walk and for one address of an accepted set: that of its family. A crate for each family has its leaves; families has
 // their rules. Inner functions: whoever calls them has tested the set, and the position.
+#![tactic(auto)]
+
 ghost use Rattle.std.specs.Prelude.{◌≡◌, ◌<◌};
 ghost use Rattle.sets.specs.Set.{family_of};
 ghost use Rattle.families.specs.Rules.{rule_in, barred};

@@ -1,4 +1,6 @@
 // The gateway on what C lends: one number is the answer, and what else a call says goes through out-parameters, which a refused call leaves as they are.
+#![tactic(auto)]
+
 ghost use Rattle.std.specs.Prelude.{◌≡◌, ℕ};
 ghost use Rattle.gateway_laying.specs.Answer.{say_length};
 ghost use Rattle.gateway.specs.Placed.{Stretch, say_place};

@@ -1,4 +1,6 @@
 // Plan files on what C lends: one number is the answer, and what else a call says goes through out-parameters, which a refused call leaves as they are.
+#![tactic(auto)]
+
 ghost use Rattle.std.specs.Prelude.{◌≡◌, ℕ, length};
 ghost use Rattle.plans.specs.Judging.{say_counted, say_judged, counted_of, judged_of};
 ghost use Rattle.plans.specs.Writing.{say_length, say_written, length_of, written_of, buffer_of};

@@ -1,5 +1,7 @@
 // Receptions added up on what C lends: a parameter set is its numbers in a row, and what a position holds goes through two out-parameters, which a
 // refused call leaves as they are.
+#![tactic(auto)]
+
 ghost use Rattle.std.specs.Prelude.{◌≡◌};
 ghost use Rattle.positions.specs.Heard.{reception, kept};
 ghost use Rattle.combine.specs.Answer.{added_of, sums_of, counts_of, say_reading};

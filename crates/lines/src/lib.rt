@@ -1,4 +1,6 @@
 // The words of a line: what stands between bytes up to the space. And a line with more put after it.
+#![tactic(auto)]
+
 ghost use Rattle.std.specs.Prelude.{◌≡◌, ◌+◌, ◌≤◌, length, take, drop};
 ghost use Rattle.lines.specs.Words.{of_word, ends, word_of};
 ghost use Rattle.lines.specs.Appended.{Appended};

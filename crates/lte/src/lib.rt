@@ -1,4 +1,6 @@
 // LTE's own factors: for each listed K the f1 and f2 of 3GPP TS 36.212, table 5.1.3-3, for whoever has none.
+#![tactic(auto)]
+
 mod firsts; // firsts.rt: f1 of each K
 mod seconds; // seconds.rt: f2 of each K
 
@@ -12,7 +14,7 @@ use profiles::step_by;
 use sets::{Factors, Refusal, Set};
 
 // The answer: the factors, of which f1 is the first, f2 the second and the others are 0; or the refusal.
-#[derive(Drop)]
+#[derive(Clone, Copy)]
 pub enum Given {
     Of(Factors),
     Refused(Refusal),

@@ -1,4 +1,6 @@
 // Words that have a name and a value, as `stream=2`: whether a word is one, its parts, and the words of a line that are, or that are not.
+#![tactic(auto)]
+
 ghost use Rattle.std.specs.Prelude.{◌≡◌, ◌≤◌, length};
 ghost use Rattle.named.specs.Named.{mark_of, is_named, name_of, value_of, words_of, picked};
 

@@ -4,7 +4,7 @@ use super::{say, say_number};
 use sets::{Set, Verdict};
 
 // Sizes that follow each other by one step.
-#[derive(Drop)]
+#[derive(Clone, Copy)]
 struct Row {
     first: u32,
     last: u32,

@@ -1,4 +1,6 @@
 // The answers of the query commands as text: address lists, one address, the table of profiles, a picture.
+#![tactic(auto)]
+
 pub mod lists; // lists.rt: the test of a set, addresses
 pub mod picture; // picture.rt: a permutation as an SVG
 pub mod admitted; // admitted.rt: what each profile admits

@@ -1,5 +1,7 @@
 // L of an accepted set in pieces: a walk that goes on from piece to piece, as long as the lent slice is, so that no table of the whole list is needed and
 // no address is worked out twice. Inner functions: whoever calls them has tested the set.
+#![tactic(auto)]
+
 ghost use Rattle.std.specs.Prelude.{◌≡◌};
 ghost use Rattle.sets.specs.Admits.{Accepted};
 ghost use Rattle.pieces.specs.Pieces.{Stands, Pieced};
@@ -8,7 +10,7 @@ use laws::{Leaf, Way};
 use sets::Set;
 
 // Where a walk for L stands: how many addresses it has written, and the next cell.
-#[derive(Drop)]
+#[derive(Clone, Copy)]
 pub struct Standing {
     pub at: usize,
     pub cell: usize,

@@ -1,5 +1,7 @@
 // Where two plan files differ: the next difference from a place on. No parameter set is tested. Inner functions: whoever calls them has tested the files.
 // Plans are counted from 0 in what is asked, and from 1 in what is answered.
+#![tactic(auto)]
+
 ghost use Rattle.std.specs.Prelude.{◌≡◌, max, ◌<◌};
 ghost use Rattle.plan_form.specs.Form.{set_in};
 ghost use Rattle.plan_form.specs.Lists.{Inside, Proper, Having, agree, wrongs_from, list_at};
@@ -9,7 +11,7 @@ ghost use Rattle.plan_differ.specs.Seeking.{Below};
 use plan_form::{Listing, Place};
 
 // A difference: a plan that only one file has, a plan with another profile, bits or N, or a position with what stands there in each file.
-#[derive(Drop)]
+#[derive(Clone, Copy)]
 pub enum Difference {
     Missing(u32),
     Header(u32),
@@ -22,14 +24,14 @@ pub enum Difference {
 }
 
 // The next difference, if there is one.
-#[derive(Drop)]
+#[derive(Clone, Copy)]
 pub enum Next {
     One(Difference),
     Nothing,
 }
 
 // A position that was looked for.
-#[derive(Drop)]
+#[derive(Clone, Copy)]
 pub enum Sought {
     Position(usize),
     Nothing,

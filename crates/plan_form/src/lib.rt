@@ -1,5 +1,7 @@
 // The form of a plan file, what its header says, and what stands at a position of one of its lists. Inner functions, but for the test of the form and of a
 // set: whoever calls the others has tested that what they read is there. Plans are counted from 0 here.
+#![tactic(auto)]
+
 ghost use Rattle.std.specs.Prelude.{◌≡◌, ◌+◌, ◌<◌, ◌≤◌, length};
 ghost use Rattle.laws.specs.Outcome.{first};
 ghost use Rattle.sets.specs.Verdict.{say_ruled};
@@ -18,14 +20,14 @@ pub const PLANS: usize = 16;
 pub const PROFILES: u32 = 5;
 
 // Where a list stands in its file, and how many addresses it has.
-#[derive(Drop)]
+#[derive(Clone, Copy)]
 pub struct Listing {
     pub offset: usize,
     pub count: usize,
 }
 
 // What stands at a position of a list.
-#[derive(Drop)]
+#[derive(Clone, Copy)]
 pub enum Place {
     Absent,
     Address(u32),

@@ -1,5 +1,7 @@
 // A list of a plan file beside L of an accepted set: how many positions are wrong, and the first of them. L is walked in pieces, as long as the lent slice
 // is. Inner functions: whoever calls them has tested the file and the set.
+#![tactic(auto)]
+
 ghost use Rattle.std.specs.Prelude.{◌≡◌, ◌+◌, ◌<◌, ◌≤◌, length};
 ghost use Rattle.laws.specs.Kept.{passing};
 ghost use Rattle.laws.specs.Run.{run};
@@ -12,7 +14,7 @@ use plan_form::Listing;
 use sets::Set;
 
 // How many positions were wrong so far, and the first of them; 0 where there is none.
-#[derive(Drop)]
+#[derive(Clone, Copy)]
 pub struct Tally {
     pub first: u32,
     pub count: u32,

@@ -7,7 +7,7 @@ use words::text;
 use words::text::{put, put_number};
 
 // Where the next difference is looked for: a plan, counted from 1, and a position of it.
-#[derive(Drop)]
+#[derive(Clone, Copy)]
 struct From {
     plan: u32,
     position: u32,

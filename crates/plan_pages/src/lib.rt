@@ -1,4 +1,6 @@
 // The commands on plan files: the judge's lines, those of two files that differ, and the file of given sets.
+#![tactic(auto)]
+
 pub mod compared; // compared.rt: where two files differ
 pub mod judged; // judged.rt: each plan of a file
 pub mod written; // written.rt: the file of given sets

@@ -1,4 +1,5 @@
 // Plan files that are stored beside this program, as its arguments name them: each is judged, and compared with the next.
+#![tactic(auto)]
 
 fn main() {
     let n = os::arg_count();

@@ -1,5 +1,7 @@
 // The file of given sets, three numbers a set: their test, the file's length, and its bytes in a lent buffer. L is walked once for each set, in pieces, as
 // long as the lent slice is. Inner functions: whoever calls them has counted the sets.
+#![tactic(auto)]
+
 ghost use Rattle.std.specs.Prelude.{◌≡◌, ◌+◌, ◌*◌, ◌<◌, ◌≤◌, length, take};
 ghost use Rattle.std.proofs.lemmas.List.Edits.{sets};
 ghost use Rattle.laws.specs.Run.{run};
@@ -13,7 +15,7 @@ use plan_form::ruling_of;
 use sets::{NO_FACTORS, Refusal, Ruled, Set};
 
 // Whether sets are all good, and then a file's length.
-#[derive(Drop)]
+#[derive(Clone, Copy)]
 pub enum Measured {
     Bytes(usize),
     Refused(Refusal),

@@ -7,7 +7,7 @@ use plan_differ::{Difference, Next};
 use sets::Refusal;
 
 // The answer: the next difference, or that there is none.
-#[derive(Drop)]
+#[derive(Clone, Copy)]
 pub enum Differed {
     Found(Difference),
     Nothing,

@@ -9,14 +9,14 @@ use plan_judge::Tally;
 use sets::{Refusal, Ruled};
 
 // The answer of counting plans.
-#[derive(Drop)]
+#[derive(Clone, Copy)]
 pub enum Counted {
     Plans(u32),
     Refused(Refusal),
 }
 
 // The answer of judging a plan: its list is L; or the first wrong position, and how many are wrong. A missing or surplus place is wrong.
-#[derive(Drop)]
+#[derive(Clone, Copy)]
 pub enum Judged {
     Equal,
     Wrong { first: u32, count: u32 },

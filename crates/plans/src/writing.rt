@@ -9,14 +9,14 @@ use plan_writer::Measured;
 use sets::Refusal;
 
 // The answer of asking for a file's length.
-#[derive(Drop)]
+#[derive(Clone, Copy)]
 pub enum Length {
     Bytes(u32),
     Refused(Refusal),
 }
 
 // The answer of writing.
-#[derive(Drop)]
+#[derive(Clone, Copy)]
 pub enum Written {
     Done,
     Refused(Refusal),

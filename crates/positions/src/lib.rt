@@ -1,11 +1,13 @@
 // One position, which holds the running sum of the values that it received and how many they are: what one reception makes of it, and whether it may.
 // Zero is a value like any other: whether there is one is said by the presence byte and by the count alone.
+#![tactic(auto)]
+
 ghost use Rattle.std.specs.Prelude.{◌≡◌, eqb, ltb, set};
 ghost use Rattle.std.specs.Float.Ieee.Scale.{finite};
 ghost use Rattle.positions.specs.Heard.{running, kept, held, heard, sum_after, spoils, count_after, Hears};
 
 // What a position holds: the running sum of the values that it received, and how many they are.
-#[derive(Drop)]
+#[derive(Clone, Copy)]
 pub struct Running {
     pub sum: f32,
     pub count: u16,

@@ -1,12 +1,14 @@
 // The profiles: which family of formulas each has, which numbers, and what it admits; s of the bits, and the step of LTE's sizes. table.rt has
 // them question by question.
+#![tactic(auto)]
+
 ghost use Rattle.std.specs.Prelude.{◌≡◌, ◌<◌};
 ghost use Rattle.profiles.specs.Profiles.{family_by, numbers_by, admitted_by, group_by, step_by, number_listed};
 
 mod table; // table.rt: what each profile is
 
 // The kinds of interleaver that profiles are of: one rule for each. (crate families, specs/Rules.antt; a crate for each has its leaves.)
-#[derive(Drop)]
+#[derive(Clone, Copy)]
 pub enum Family {
     Carrier,
     Spatial,
@@ -17,7 +19,7 @@ pub enum Family {
 
 // The numbers of a profile's formulas: d, the rows of a carrier interleaver; r, N_ROT of IEEE 802.11n; and how many streams there are. One that the
 // family lacks is 0.
-#[derive(Drop)]
+#[derive(Clone, Copy)]
 pub struct Numbers {
     pub d: u32,
     pub r: u32,
@@ -25,7 +27,7 @@ pub struct Numbers {
 }
 
 // How the sizes N of a profile come from its unit, its limit and the bits per carrier.
-#[derive(Drop)]
+#[derive(Clone, Copy)]
 pub enum Form {
     Only, // unit times bits
     Doubled, // unit times bits, times 1, 2, 4, 8, 16
@@ -37,7 +39,7 @@ pub enum Form {
 }
 
 // The bits per carrier of a profile.
-#[derive(Drop)]
+#[derive(Clone, Copy)]
 pub enum Bits {
     Each, // 1, 2, 4, 6
     Even, // 2, 4, 6
@@ -45,7 +47,7 @@ pub enum Bits {
 }
 
 // What a profile admits: its bits, and the sizes N of a form. A limit that the form lacks is 0.
-#[derive(Drop)]
+#[derive(Clone, Copy)]
 pub struct Admitted {
     pub bits: Bits,
     pub form: Form,

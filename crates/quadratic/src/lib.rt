@@ -1,5 +1,7 @@
 // The quadratic interleaver of LTE, 3GPP TS 36.212 5.1.3.2.3: the formula, in specs, and the tests of f1 and f2. Whether two positions would share an
 // address is decided by a greatest common divisor and a power, and no position is tried. An inner crate: the test of a set shows what is required.
+#![tactic(auto)]
+
 ghost use Rattle.std.specs.Prelude.{◌≡◌, ◌*◌, ◌%◌, ◌^◌, ◌<◌};
 ghost use Rattle.quadratic.specs.Formula.{within, all_apart};
 

@@ -1,4 +1,6 @@
 // An accepted set of the quadratic family: its K, f1 and f2, and the leaf that is asked. M is not walked.
+#![tactic(auto)]
+
 ghost use Rattle.std.specs.Prelude.{◌≡◌, ◌<◌};
 ghost use Rattle.profiles.specs.declared.Family.TheVariants.{Quadratic};
 ghost use Rattle.families.specs.Rules.{rule_in};

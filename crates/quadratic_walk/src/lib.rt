@@ -1,6 +1,8 @@
 // The quadratic interleaver's addresses: the walk for L from any cell, and one address either way. A position's address and its difference to the next
 // are worked out once a call, by products and remainders; from there on each step is two sums, of which each takes K off at most once. The
 // public functions are leaf functions: the crate above them tests a set first, and shows what they require.
+#![tactic(auto)]
+
 ghost use Rattle.std.specs.Prelude.{◌≡◌, List, ℕ, ◌+◌, ◌*◌, ◌%◌, ◌≤◌, ◌<◌, length};
 ghost use Rattle.laws.specs.Lanes.{Ran};
 ghost use Rattle.laws.specs.Walk.{LeafOf};
@@ -11,7 +13,7 @@ use laws::Leaf;
 use residues::{least, plus};
 
 // Where a walk stands: the address, and how much more the next one is, modulo K.
-#[derive(Drop)]
+#[derive(Clone, Copy)]
 struct Spot {
     value: usize,
     delta: usize,

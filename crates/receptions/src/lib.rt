@@ -1,4 +1,6 @@
 // `combine`: receptions of a block, each from a file, added up; then what each position holds, by input index, with its sum exactly.
+#![tactic(auto)]
+
 use combine::Reading;
 use figures::decimal::{PLACES, spell_f32};
 use figures::{Got, VALUES};

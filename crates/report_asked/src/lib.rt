@@ -1,4 +1,6 @@
 // What the padding report is asked for, request 11: two lines, the first K and the last. Over the bytes alone; where they come from is the program's.
+#![tactic(auto)]
+
 ghost use Rattle.std.specs.Prelude.{◌≡◌, length};
 ghost use Rattle.report_asked.specs.Lines.{line_of, number_in, begins};
 ghost use Rattle.report_asked.specs.Asked.{asked_by, say_asked, asked_last, settled_by};
@@ -6,14 +8,14 @@ ghost use Rattle.report_asked.specs.Asked.{asked_by, say_asked, asked_last, sett
 use numbers::Number;
 
 // A first K and a last.
-#[derive(Drop)]
+#[derive(Clone, Copy)]
 pub struct Range {
     pub first: u32,
     pub last: u32,
 }
 
 // What is asked for, or the number of the refusal.
-#[derive(Drop)]
+#[derive(Clone, Copy)]
 pub enum Asked {
     Of(Range),
     Refused(u32),

@@ -1,4 +1,6 @@
 // The padding report from standard input to standard output, request 11.
+#![tactic(auto)]
+
 mod taken; // taken.rt: the bytes of the two lines, and no byte after them
 pub mod text; // text.rt: the text that they give
 

@@ -11,7 +11,7 @@ use report_asked::settled;
 pub(super) const MOST: usize = 10;
 
 // So many bytes, which settle it; so many, with which standard input ended; or a read failed, which has been told.
-#[derive(Drop)]
+#[derive(Clone, Copy)]
 pub(super) enum Taken {
     Settled(usize),
     Ended(usize),
@@ -19,7 +19,7 @@ pub(super) enum Taken {
 }
 
 // A byte, or none.
-#[derive(Drop)]
+#[derive(Clone, Copy)]
 enum Next {
     Byte(u8),
     End,

@@ -1,5 +1,7 @@
 // Arithmetic that several interleavers need to set themselves up or to step: the greatest common divisor, the lesser of two numbers, and a sum
 // modulo k. (laws has the mathematics: specs/Euclid.antt.)
+#![tactic(auto)]
+
 ghost use Rattle.std.specs.Prelude.{◌≡◌, ◌+◌, ◌%◌, ◌<◌, min};
 ghost use Rattle.laws.specs.Euclid.{gcd};
 

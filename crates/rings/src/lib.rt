@@ -1,4 +1,6 @@
 // The loops over one ring of a branch machine, for any number of branches. Nothing here divides or multiplies, and no loop reads a table.
+#![tactic(auto)]
+
 ghost use Rattle.std.specs.Prelude.{◌≡◌, ◌+◌, ◌-◌, ◌*◌, ◌≤◌, ◌<◌, length};
 ghost use Rattle.delay.specs.Lane.{wrap_of, count_of, Left, Turned, Passed};
 ghost use Rattle.delay.specs.Loops.{Stretching};

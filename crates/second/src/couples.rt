@@ -6,7 +6,7 @@ use crate::{ENDS, Whole};
 use sets::Set;
 
 // How many couples there are, and the four numbers.
-#[derive(Drop)]
+#[derive(Clone, Copy)]
 struct Four {
     n: usize,
     p0: usize,

@@ -1,5 +1,7 @@
 // The second computation: whole lists from document 01's formulas, for profile 5, for the third step of 6 and 7 and for profiles 8 and 9 from the
 // standards', with a division at each address. It knows nothing of the walk, and promises nothing: a program holds the proved lists against it.
+#![tactic(auto)]
+
 pub mod couples; // couples.rt: the couples and symbols of profile 9, and its outputs tried
 pub mod num; // num.rt: arithmetic that never fails
 mod primes; // primes.rt: primes, the least primitive root, the next q
@@ -14,7 +16,7 @@ use sets::Set;
 pub const ENDS: usize = 6144;
 
 // A list as it was computed: its set, how many addresses and cells it has, and how many of the cells are padding.
-#[derive(Drop)]
+#[derive(Clone, Copy)]
 pub struct Whole {
     pub set: Set,
     pub addresses: usize,
@@ -141,7 +143,7 @@ fn turbo_cells(set: Set, exchange: bool, table: &mut [u16], list: &mut [u16]) ->
 }
 
 // R and C of a size of profile 5.
-#[derive(Drop)]
+#[derive(Clone, Copy)]
 pub struct Sides {
     pub rows: usize,
     pub columns: usize,

@@ -16,7 +16,7 @@ const OTHER: [u16; 20] = [
 ];
 
 // R, p and C, and whether U(p) and U(0) of row R - 1 change places.
-#[derive(Drop)]
+#[derive(Clone, Copy)]
 pub struct Grid {
     pub r: usize,
     pub p: usize,

@@ -1,4 +1,6 @@
 // A parameter set, the test of one, and what a refusal carries.
+#![tactic(auto)]
+
 ghost use Rattle.std.specs.Prelude.{◌≡◌, ◌<◌};
 ghost use Rattle.sets.specs.Set.{family_of, is_turbo, is_spatial, is_quadratic, is_coupled, couples_of, numbers_of, group_of};
 ghost use Rattle.sets.specs.Stream.{stream_listed};
@@ -12,7 +14,7 @@ use sizes::Size;
 
 // The numbers that a set has beside its size and stream. Profile 8 reads the first two, which are its f1 and f2, profile 9 all four, which are its P0 to
 // P3; no other profile reads any.
-#[derive(Drop)]
+#[derive(Clone, Copy)]
 pub struct Factors {
     pub first: u32,
     pub second: u32,
@@ -22,7 +24,7 @@ pub struct Factors {
 
 // A profile, bits per carrier, the block's size N (of profile 9 its couples), the spatial stream, which is 1 for a profile of one stream, and the factors.
 // Any numbers may be given.
-#[derive(Drop)]
+#[derive(Clone, Copy)]
 pub struct Set {
     pub profile: u32,
     pub bits: u32,
@@ -33,21 +35,21 @@ pub struct Set {
 
 // What a refused call gives back: the number of document 01; and with 3 the least listed N not below the one asked for, or 0 if there is none. With
 // every other number the size is 0.
-#[derive(Drop)]
+#[derive(Clone, Copy)]
 pub struct Refusal {
     pub number: u32,
     pub size: u32,
 }
 
 // Which line of a set's test applies first, if one does: its number. What a refusal carries beside that is asked for where one is given.
-#[derive(Drop)]
+#[derive(Clone, Copy)]
 pub enum Ruled {
     Clear,
     Stopped(u32),
 }
 
 // The answer of the test of a set.
-#[derive(Drop)]
+#[derive(Clone, Copy)]
 pub enum Verdict {
     Accepted,
     Refused(Refusal),

@@ -1,4 +1,6 @@
 // A size: a profile, bits per carrier and N. The tests of what is listed. An inner crate: who asks for N has asked for the bits.
+#![tactic(auto)]
+
 ghost use Rattle.std.specs.Prelude.{◌≡◌, ◌<◌};
 ghost use Rattle.laws.specs.Members.{multiple};
 ghost use Rattle.sizes.specs.Tests.{profile_listed, bits_listed, size_listed};
@@ -6,7 +8,7 @@ ghost use Rattle.sizes.specs.Tests.{profile_listed, bits_listed, size_listed};
 use profiles::{Bits, Form, admitted_by, group_by, step_by};
 
 // What a table lists. Any numbers may be given.
-#[derive(Drop)]
+#[derive(Clone, Copy)]
 pub struct Size {
     pub profile: u32,
     pub bits: u32,

@@ -1,4 +1,6 @@
 // An accepted set of the spatial family: its block, with the stream, and the leaf that is asked.
+#![tactic(auto)]
+
 ghost use Rattle.std.specs.Prelude.{◌≡◌, ◌<◌};
 ghost use Rattle.profiles.specs.declared.Family.TheVariants.{Spatial};
 ghost use Rattle.families.specs.Rules.{rule_in};

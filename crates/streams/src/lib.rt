@@ -1,5 +1,7 @@
 // The byte interleavers and deinterleavers of DVB and ATSC: a record by value, a lent store. A call is refused with a number, and then it touches
 // nothing, or it is done.
+#![tactic(auto)]
+
 ghost use Rattle.std.specs.Prelude.{◌≡◌, true, length, replicate};
 ghost use Rattle.laws.specs.declared.Way.TheVariants.{Interleaver, Deinterleaver};
 ghost use Rattle.kinds.specs.Kinds.{sizes_of, in_range};
@@ -13,14 +15,14 @@ use kinds::sizes::Sizes;
 use laws::Way;
 
 // What a start or a feed says: it is done, or refused with a number.
-#[derive(Drop)]
+#[derive(Clone, Copy)]
 pub enum Said {
     Done,
     Refused(u32),
 }
 
 // What it answers. A feed that is done hands the next record on, and one that is refused its own as it came; a start that is refused gives zeros.
-#[derive(Drop)]
+#[derive(Clone, Copy)]
 pub struct Answer {
     pub said: Said,
     pub stream: Stream,

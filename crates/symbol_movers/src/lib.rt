@@ -1,4 +1,6 @@
 // Symbols of `width` bytes moved by a lent table, either way. Nothing is tested here: whoever calls has filled the table and judged the lengths.
+#![tactic(auto)]
+
 ghost use Rattle.std.specs.Prelude.{◌≡◌, ◌+◌, ◌≤◌, length, drop};
 ghost use Rattle.std.proofs.Math.Seq.{paste};
 ghost use Rattle.laws.specs.declared.Way.TheVariants.{Interleaver, Deinterleaver};

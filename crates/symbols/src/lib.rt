@@ -1,4 +1,6 @@
 // Whole blocks of symbols, each of `width` bytes, interleaved and deinterleaved by a table that the walk for L fills. No byte is looked at.
+#![tactic(auto)]
+
 ghost use Rattle.std.specs.Prelude.{◌≡◌, ◌*◌, ◌≤◌, length};
 ghost use Rattle.laws.specs.declared.Way.TheVariants.{Interleaver, Deinterleaver};
 ghost use Rattle.families.specs.Symbols.{symbols_of};

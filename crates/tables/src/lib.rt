@@ -1,5 +1,7 @@
 // What every call that moves a block does first: the set and the lengths are judged, and then the table of the block's symbols is made in a lent slice: the
 // walk for L, and of couples their two symbols each. How many symbols a block has is asked here, and how many bytes a symbol has is the caller's to say.
+#![tactic(auto)]
+
 ghost use Rattle.std.specs.Prelude.{◌≡◌, ◌*◌, ◌≤◌, length};
 ghost use Rattle.sets.specs.Admits.{Accepted};
 ghost use Rattle.families.specs.Symbols.{symbols_of};
@@ -17,7 +19,7 @@ pub const MIDDLE: usize = 512;
 pub const LARGE: usize = 6144;
 
 // The answer of a call that moves a block.
-#[derive(Drop)]
+#[derive(Clone, Copy)]
 pub enum Moved {
     Done,
     Refused(Refusal),

@@ -1,1 +1,2 @@
 // The conditions of the tender, as theorems: see specs/. No code.
+#![tactic(auto)]

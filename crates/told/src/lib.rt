@@ -1,9 +1,11 @@
 // What the program says of a command: help, and the one line that says what was expected.
+#![tactic(auto)]
+
 use kinds::Stream;
 use libc::{STDERR_FILENO, STDOUT_FILENO};
 
 // What the first words ask for. A byte stream and a burst have a kind.
-#[derive(Drop)]
+#[derive(Clone, Copy)]
 pub enum Command {
     Help,
     Test,

@@ -1,4 +1,6 @@
 // An accepted set of the turbo family: its K, and the leaf that is asked. M is not walked.
+#![tactic(auto)]
+
 ghost use Rattle.std.specs.Prelude.{◌≡◌, ◌<◌};
 ghost use Rattle.profiles.specs.declared.Family.TheVariants.{Turbo};
 ghost use Rattle.families.specs.Rules.{rule_in};

@@ -1,6 +1,8 @@
 // The public calls on a parameter set: the walk for L, the walk for M, one address either way. Every input is tested inside. Here a set and a
 // position are tested and the call given to the set's family, in crate leaves; a cell is tested there, since the total is the family's. A way stands
 // for a list: L for the interleaver, which takes output t from input L(t), and M for the deinterleaver, which takes output k from input M(k).
+#![tactic(auto)]
+
 ghost use Rattle.std.specs.Prelude.{cond, ◌≡◌, length};
 ghost use Rattle.laws.specs.declared.Way.TheVariants.{Interleaver, Deinterleaver};
 ghost use Rattle.laws.specs.Walk.{say_leaf};
@@ -15,14 +17,14 @@ use laws::{Leaf, Way};
 use sets::{Refusal, Ruled, Set};
 
 // A walk's record: a parameter set, and the next cell.
-#[derive(Drop)]
+#[derive(Clone, Copy)]
 pub struct Walk {
     pub set: Set,
     pub cell: u32,
 }
 
 // The answer of a walk: addresses written, the record, cells examined; or the refusal.
-#[derive(Drop)]
+#[derive(Clone, Copy)]
 pub enum Walked {
     Done {
         written: u32,
@@ -33,7 +35,7 @@ pub enum Walked {
 }
 
 // The answer for one address.
-#[derive(Drop)]
+#[derive(Clone, Copy)]
 pub enum Found {
     At(u32),
     Refused(Refusal),

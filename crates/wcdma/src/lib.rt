@@ -1,1 +1,2 @@
 // The WCDMA turbo interleaver, profile 5: its definitions and laws are in specs/. No code.
+#![tactic(auto)]

@@ -1,4 +1,6 @@
 // The walk over the cells: additions, comparisons and table reads.
+#![tactic(auto)]
+
 ghost use Rattle.std.specs.Prelude.{◌≡◌, ◌+◌, ◌-◌, ◌%◌, ◌<◌, ◌≤◌};
 ghost use Rattle.wcdma.specs.Laid.{plain_rule};
 ghost use Rattle.wcdma_cells.specs.Post.{entry_at, CellIn, CellOf, ColumnIn, ColumnOf, FillIn, WentOf};

@@ -1,6 +1,8 @@
 // Full rectangles, C = p + 1 and K = R·C: in row 0 the entries U of columns 0 and p change places. The walk goes by U of each cell's own column, and
 // where it has come by the two cells, their addresses are written over behind it: no cell is asked whether it is one of them. A full rectangle has no
 // padding, so a cell's address stands as far from the slice's front as the cell from the walk's first.
+#![tactic(auto)]
+
 ghost use Rattle.std.specs.Prelude.{◌≡◌, ◌<◌};
 ghost use Rattle.wcdma_shape.specs.Post.{ShapeOf};
 ghost use Rattle.wcdma.specs.Turbo.{full};

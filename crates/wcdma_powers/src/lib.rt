@@ -1,4 +1,6 @@
 // The powers S of a WCDMA block's rectangle, 3GPP TS 25.212 4.2.3.2.3 (defined in crate wcdma_shape, specs/Powers.antt). A walk pays this once a call.
+#![tactic(auto)]
+
 ghost use Rattle.std.specs.Prelude.{◌≡◌, ℕ, ◌*◌, ◌-◌, ◌%◌, ◌<◌, get_or};
 ghost use Rattle.wcdma_shape.specs.Powers.{power};
 ghost use Rattle.wcdma_powers.specs.Post.{short_by, StepIn, HalfIn, HalvesOf, PowersIn};

@@ -1,5 +1,7 @@
 // The padding report of request 11: for a size K of the WCDMA turbo interleaver the R, C, cells and padding of its rectangle, and their totals from a
 // first K to a last. Nothing is walked: the cells are R times C, and the padding is what K leaves of them.
+#![tactic(auto)]
+
 ghost use Rattle.std.specs.Prelude.{◌≡◌, ◌≤◌};
 ghost use Rattle.wcdma_shape.specs.Rectangle.{Size};
 ghost use Rattle.wcdma_report.specs.Report.{is_size, is_range, turbo_set, figures, totals, figures_of, totals_of, say_reported, say_summed, Between};
@@ -7,7 +9,7 @@ ghost use Rattle.wcdma_report.specs.Report.{is_size, is_range, turbo_set, figure
 use sets::{Refusal, Set};
 
 // A line of the report.
-#[derive(Drop)]
+#[derive(Clone, Copy)]
 pub struct Figures {
     pub k: u32,
     pub r: u32,
@@ -17,7 +19,7 @@ pub struct Figures {
 }
 
 // Its last line: how many sizes, and the sums of their cells and of their padding.
-#[derive(Drop)]
+#[derive(Clone, Copy)]
 pub struct Totals {
     pub sizes: u32,
     pub cells: u32,
@@ -25,14 +27,14 @@ pub struct Totals {
 }
 
 // The figures of one K, or the refusal.
-#[derive(Drop)]
+#[derive(Clone, Copy)]
 pub enum Reported {
     Of(Figures),
     Refused(Refusal),
 }
 
 // The totals, or the number of the refusal.
-#[derive(Drop)]
+#[derive(Clone, Copy)]
 pub enum Summed {
     Of(Totals),
     Refused(u32),

@@ -1,4 +1,6 @@
 // The rows of the rectangle, laid out for a walk. This divides; a walk pays it once.
+#![tactic(auto)]
+
 ghost use Rattle.std.specs.Prelude.{◌≡◌, ◌*◌, ◌%◌, ◌<◌, ◌≤◌};
 ghost use Rattle.wcdma.specs.Laid.{next_col, Exponents, Rows};
 ghost use Rattle.wcdma_rows.specs.Post.{LayIn};

@@ -1,4 +1,6 @@
 // The numbers q of a WCDMA block's rectangle, 3GPP TS 25.212 4.2.3.2.3 (specs/Numbers.antt). A walk pays this once a call.
+#![tactic(auto)]
+
 ghost use Rattle.wcdma_setup.specs.Post.{Sought, NextOf, NumbersIn, NumbersAre};
 
 use residues::gcd_of;

@@ -1,5 +1,7 @@
 // The rectangle of a WCDMA block, 3GPP TS 25.212 4.2.3.2.3: R, p, C and v of its size, and the row order, each by its definition in specs/. A
 // walk pays this once a call.
+#![tactic(auto)]
+
 mod tables;
 
 ghost use Rattle.std.specs.Prelude.{◌≡◌};
@@ -8,7 +10,7 @@ ghost use Rattle.wcdma_shape.specs.Orders.{which_order, order_of, row_at};
 ghost use Rattle.wcdma_shape.specs.Post.{ShapeOf, PlaceIn, PlaceOf, ColsIn, RowIn};
 
 // K, R, p, C and v of a block.
-#[derive(Drop)]
+#[derive(Clone, Copy)]
 pub struct Shape {
     pub k: usize,
     pub r: usize,
@@ -18,7 +20,7 @@ pub struct Shape {
 }
 
 // R and C.
-#[derive(Drop)]
+#[derive(Clone, Copy)]
 pub struct Sides {
     pub r: usize,
     pub c: usize,

@@ -1,5 +1,7 @@
 // The WCDMA turbo interleaver, profile 5: the walk over the cells of a block, and one address either way. The set-up divides; the walk adds,
 // compares and reads tables.
+#![tactic(auto)]
+
 ghost use Rattle.std.specs.Prelude.{◌≡◌, ◌<◌};
 ghost use Rattle.laws.specs.Position.{position};
 ghost use Rattle.laws.specs.Walk.{LeafOf};

@@ -9,7 +9,7 @@ use named::is_named;
 pub const LONGEST: usize = 48;
 
 // Where the line of some arguments ends, and how many of them are not named.
-#[derive(Drop)]
+#[derive(Clone, Copy)]
 struct Ends {
     at: usize,
     plain: usize,

@@ -5,7 +5,7 @@ use libc::STDIN_FILENO;
 use lines::ROOM;
 
 // A line of standard input: so many bytes at the start of the room; or one that is too long, and was passed over; or there is none.
-#[derive(Drop)]
+#[derive(Clone, Copy)]
 pub enum Line {
     Of(usize),
     Long,
