@@ -1,7 +1,7 @@
 -- Where a walk ends: at the last cell, or with its room full, and never a cell later. The three parts of `EndsAt` say it whole: no other
 -- number of cells has them. For any rule and test. Rests on Keep and Cut.
 use Prim.Native.Nat.{ℕ, zero, suc, ◌≤◌, ◌<◌}
-use Rattle.std.specs.Prelude.{Bool, List, ◌∷◌, ◌⊎◌, ◌≡◌, ltb}
+use Rattle.std.specs.Prelude.{Bool, ◌∷◌, ◌⊎◌, ◌≡◌, ltb}
 use Rattle.std.proofs.Math.Bool.{true, false, cond}
 use Rattle.std.proofs.Math.Logic.{inl, inr}
 use Rattle.std.proofs.Common.{⊎_elim, sym, ap, ◌∙◌, eq-or-lt_of_le, ltb-true, ltb-false}

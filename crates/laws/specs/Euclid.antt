@@ -1,7 +1,7 @@
 -- The greatest common divisor by Euclid's steps: it divides both numbers, whatever divides both divides it, and it is a multiple of the
 -- first less a multiple of the second. So where it is 1, the second number can be taken out of a product modulo the first. Rests on
 -- Residue.
-use Rattle.std.specs.Prelude.{ℕ, zero, suc, ◌+◌, ◌-◌, ◌*◌, ◌/◌, ◌%◌, ◌≤◌, ◌<◌, Bool, true, false, cond, ◌≡◌, refl, eqb}
+use Rattle.std.specs.Prelude.{ℕ, zero, suc, ◌+◌, ◌*◌, ◌/◌, ◌%◌, ◌≤◌, ◌<◌, Bool, true, false, cond, ◌≡◌, refl, eqb}
 use Rattle.std.proofs.Common.{ap, sym, ◌∙◌, mod-lt, mod-eq_of_lt, mul-one, mul-zero, arith, eqb-true, ne_eqb}
 use Rattle.std.proofs.Math.Nat.{mod_self, zero-mod, mod-zero, div-add-mod, mul-mod_right, dvd-mod_iff, dvd_iff_mod-eq-zero}
 use Rattle.std.proofs.lemmas.Bool.{eqb-false}
