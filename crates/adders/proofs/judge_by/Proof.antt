@@ -37,6 +37,6 @@ judge_by_spec =
     (λ c κs. search rules)
     (λ c. omega (arith, c.before.before.before.before.before.before.before.loop-test.true, c.before.before.before.before.before.before.before.before.before.before.before.before.before.before.well-formed))
     (λ c. omega (arith, c.before.before.before.before.before.before.before.loop-test.true))
-    (λ c. judged_more _ _ _ c.before.before.before.before.before.before.before.before.loop.invariant c.before.before.before.before.before.before.before.loop-test.true refl c.before.is_spoiled_lem.ensures c.is_full_lem.ensures)
+    (λ c. judged_more _ _ _ c.before.before.before.before.before.before.before.before.loop.invariant c.before.before.before.before.before.before.before.loop-test.true refl c.before.is_spoiled.ensures c.is_full.ensures)
     (λ c κs. search rules)
     (λ c. c.first_of.ensures ∙ judged_all _ _ _ c.before.before.loop.invariant c.before.loop-test.false))

@@ -35,7 +35,7 @@ prime_here c =
     ∙ c.before.prime-place.ensures.prime_is
 
 cols-of-requires : tie.Need-cols-of-requires
-cols-of-requires c κs = record { size = c.before.before.before.before.before.requires; rows_is = c.before.before.before.before.rows_of_lem.ensures; prime_is = prime_here c }
+cols-of-requires c κs = record { size = c.before.before.before.before.before.requires; rows_is = c.before.before.before.before.rows_of.ensures; prime_is = prime_here c }
 
 root-at-requires : tie.Need-root-at-requires
 root-at-requires c κs = search rules
@@ -46,7 +46,7 @@ returns c =
       refl,
       record {
         size = b.before.before.before.before.before.requires;
-        rows_is = b.before.before.before.before.rows_of_lem.ensures;
+        rows_is = b.before.before.before.before.rows_of.ensures;
         prime_is = prime_here b;
         cols_is = c.before.cols-of.ensures;
         root_is = c.root-at.ensures ∙ ap root b.before.prime-place.ensures.prime_is;

@@ -7,4 +7,4 @@ pub sides_of_spec : {M : Type 1} → statement M
 sides_of_spec =
     tie.close
     (tie.spec (λ c κs. search rules) (λ c κs. search rules) (λ c κs. search rules) (λ c κs. search rules)
-    (λ c. (c.before.before.before.before.rows_of_lem.ensures, c.cols-of.ensures)))
+    (λ c. (c.before.before.before.before.rows_of.ensures, c.cols-of.ensures)))
