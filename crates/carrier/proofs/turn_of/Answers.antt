@@ -3,23 +3,16 @@ use Prim.Native.Nat.{◌*◌}
 use mathlib.Core.Path.{sym}
 use native.Mathlib.Nat.{mul_assoc, mul-le-mul_right}
 use native.Mathlib.Omega.{arith}
-use borrow.Author.Rules.{rules}
 use Rattle.carrier.specs.Third.{turn}
 use Rattle.carrier.specs.Turned.{three_at_most}
-use Rattle.carrier.proofs.turn_of.Statement.{statement}
-use Rattle.carrier.proofs.turn_of.Tie as tie
+use Rattle.carrier.proofs.turn_of.Goals as goal
 
-mul-result-4 : tie.Need-overflow-mul-result-4
-mul-result-4 c =
+pub overflow_mul-result-4 : goal.overflow_mul-result-4
+overflow_mul-result-4 c =
     let p = c.requires in
     let a = c.args in
     record { fits = omega (arith, mul-le-mul_right (a.r * a.bits) (three_at_most a.stream p.0 p.1.0), p.1.1) }
 
-returns : tie.Need-returns
+pub returns : goal.returns
 unfolding turn
 returns c = sym (mul_assoc _ c.args.r c.args.bits)
-
-pub turn_of_spec : {M : Type 1} → statement M
-turn_of_spec =
-    tie.close
-    (tie.spec (λ c. search rules) (λ c. search rules) (λ c. search rules) (λ c. search rules) (λ c. search rules) mul-result-4 returns)
