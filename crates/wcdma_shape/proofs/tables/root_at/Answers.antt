@@ -11,14 +11,7 @@ use native.Mathlib.Omega.{arith}
 use Rattle.laws.specs.Span.{at_number, span}
 use Rattle.wcdma_shape.specs.Powers.{first_one, generates, root, root_from}
 use Rattle.wcdma_shape.specs.Rectangle.{primes}
-use Rattle.wcdma_shape.proofs.tables.root_at.Statement.{statement}
-use Rattle.wcdma_shape.proofs.tables.root_at.Tie as tie
-
-array-read-wide : tie.Need-array-read-wide
-array-read-wide c = search rules
-
-wide-requires : tie.Need-wide-requires
-wide-requires c κs = search rules
+use Rattle.wcdma_shape.proofs.tables.root_at.Goals as goal
 
 roots : List ℕ
 roots =
@@ -39,9 +32,6 @@ roots_at : (n : ℕ) → n < 52 → get_or roots n 0 ≡ root (get_or primes n 0
 unfolding right
 roots_at n h = eqb-true (get_or roots n 0) (root (get_or primes n 0)) (at_number right 0 52 roots_right n (omega arith) (omega arith))
 
-returns : tie.Need-returns
+pub returns : goal.returns
 unfolding roots
-returns c = c.wide.ensures ∙ roots_at c.before.args.n (search rules)
-
-pub root_at_spec : {M : Type 1} → statement M
-root_at_spec = tie.close (tie.spec array-read-wide wide-requires returns)
+returns c = c.wide.ensures ∙ roots_at c.args.n (search rules)
