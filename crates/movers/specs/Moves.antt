@@ -7,7 +7,7 @@ use Rattle.laws.specs.declared.Way.TheVariants.{Interleaver, Deinterleaver}
 use Rattle.laws.specs.Perm.{Perm, swapped}
 use Rattle.laws.specs.Move.{gather, scatter, gather_same, scatter_same, gather_any, scatter_any, scatter_is}
 use Rattle.laws.specs.Blind.{gather_blind, scatter_blind}
-use Rattle.laws.specs.Loop.{by, Within}
+use Rattle.laws.specs.Loop.{Within}
 use Rattle.laws.specs.Walk.{Rule, in_way}
 
 -- the other way

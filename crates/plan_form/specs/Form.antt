@@ -1,8 +1,7 @@
 -- The form of a plan file: the number of plans, 1 to 16; for each plan profile, bits, N, offset, count; then the lists of addresses, each where the one
 -- before it ends, the first where the header ends and the last to the file's end. At most 65,536 bytes. A file is its list of bytes. These are
 -- definitions; plans are counted from 0.
-use Rattle.std.specs.Prelude.{ℕ, ◌+◌, ◌*◌, Bool, not, ◌&&◌, List, leb, length}
-use Rattle.laws.specs.Gapless.{meet}
+use Rattle.std.specs.Prelude.{ℕ, zero, suc, ◌+◌, ◌*◌, Bool, not, ◌&&◌, List, eqb, leb, length}
 use Rattle.laws.specs.Outcome.{Line, line}
 use Rattle.laws.specs.Run.{run}
 use Rattle.big_end.specs.Numbers.{number_at, pair_at}
@@ -32,10 +31,6 @@ offset_in f i = number_at f (entry_place i + 12)
 abbrev pub count_in : List ℕ → ℕ → ℕ
 count_in f i = number_at f (entry_place i + 16)
 
--- how many bytes it has, two for each
-abbrev pub size_in : List ℕ → ℕ → ℕ
-size_in f i = 2 * count_in f i
-
 -- the addresses from a place on, so many of them
 unfoldable pub addresses_at : List ℕ → ℕ → ℕ → List ℕ
 addresses_at f at count = run (λ t. pair_at f (at + 2 * t)) 0 count
@@ -45,8 +40,9 @@ abbrev pub list_in : List ℕ → ℕ → List ℕ
 list_in f i = addresses_at f (offset_in f i) (count_in f i)
 
 -- k plans from plan i on: each list begins where the one before it ended, `at` for the first, and the last ends with the file
-abbrev pub lists_meet : List ℕ → ℕ → ℕ → ℕ → Bool
-lists_meet f k i at = meet (offset_in f) (size_in f) (length f) k i at
+unfoldable pub lists_meet : List ℕ → ℕ → ℕ → ℕ → Bool
+lists_meet f zero i at = eqb at (length f)
+lists_meet f (suc k) i at = eqb (offset_in f i) at && lists_meet f k (suc i) (at + 2 * count_in f i)
 
 -- the form of a file
 unfoldable pub formed : List ℕ → Bool

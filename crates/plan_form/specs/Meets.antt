@@ -1,12 +1,13 @@
 -- The loop over a header, the tests of a file one after the other, and what a file of the form is: every entry and every list lies inside it.
-use Rattle.std.specs.Prelude.{ℕ, ◌+◌, ◌*◌, ◌-◌, ◌≤◌, ◌<◌, true, false, ◌&&◌, List, ◌≡◌, eqb, leb, length}
+use Rattle.std.specs.Prelude.{ℕ, zero, suc, ◌+◌, ◌*◌, ◌-◌, ◌≤◌, ◌<◌, true, false, ◌&&◌, List, ◌≡◌, eqb, leb, length}
+use Rattle.std.proofs.Common.{⊎_elim, ◌∙◌, subst, eq-or-lt_of_le}
 use Rattle.std.proofs.Math.Path.{sym, ap}
-use Rattle.std.proofs.Common.{◌∙◌, arith}
+use Rattle.std.proofs.Math.Numerals.{add-one}
 use Rattle.std.proofs.Math.Nat.{sub-zero}
-use borrow.Author.Tests.{le-leb, lt-leb, leb-true}
-use Rattle.laws.specs.Gapless.{Gapless, meets_gapless, inside, meet_none, meet_apart, meet_more}
+use native.Mathlib.Omega.{arith}
+use borrow.Author.Tests.{eq-eqb, ne_eqb, le-leb, lt-leb, leb-true, eqb-true}
 use Rattle.laws.specs.Members.{both}
-use Rattle.plan_form.specs.Form.{plans_in, entry_place, offset_in, count_in, size_in, lists_meet, formed}
+use Rattle.plan_form.specs.Form.{plans_in, entry_place, offset_in, count_in, lists_meet, formed}
 
 -- the loop over a header: the lists of the plans before i meet, and the next is to begin at `at`
 pub record Meeting (f : List ℕ) (plans at i : ℕ) : Type 0 where
@@ -20,18 +21,24 @@ meet_first f plans h = record { here = omega arith; small = omega arith; same = 
 
 module _ {f : List ℕ} {plans at i : ℕ} (m : Meeting f plans at i) where
   pub meet_end : plans ≤ i → eqb at (length f) ≡ lists_meet f plans 0 (entry_place plans)
-  meet_end h = meet_none (offset_in f) (size_in f) (length f) plans i at h ∙ m.same
+  unfolding lists_meet
+  meet_end h = let e : plans - i ≡ 0 = omega arith in sym (ap (λ (k : ℕ). lists_meet f k i at) e) ∙ m.same
 
   module _ (h : i < plans) {v : ℕ} (q : v ≡ offset_in f i) where
-    pub meet_not : (v ≡ at → ⊥) → false ≡ lists_meet f plans 0 (entry_place plans)
-    meet_not n = sym (meet_apart (offset_in f) (size_in f) (length f) plans i at h (λ e. n (q ∙ e))) ∙ m.same
+    one_more : plans - i ≡ suc (plans - (i + 1))
+    one_more = omega arith
 
-    pub meet_next : v ≡ at → {w : ℕ} → w ≡ count_in f i → w < 4294967296 → Meeting f plans (at + 2 * w) (i + 1)
-    meet_next e {w} c l =
+    pub meet_apart : (v ≡ at → ⊥) → false ≡ lists_meet f plans 0 (entry_place plans)
+    unfolding lists_meet
+    meet_apart n = sym (rw one_more (rw (ne_eqb (offset_in f i) at (λ e. n (q ∙ e))))) ∙ m.same
+
+    pub meet_more : v ≡ at → {w : ℕ} → w ≡ count_in f i → w < 4294967296 → Meeting f plans (at + 2 * w) (i + 1)
+    unfolding lists_meet
+    meet_more e {w} c l =
         record {
           here = omega arith;
           small = omega (arith, m.small);
-          same = ap (λ (x : ℕ). lists_meet f (plans - (i + 1)) (i + 1) (at + 2 * x)) c ∙ meet_more (offset_in f) (size_in f) (length f) plans i at h (sym q ∙ e) ∙ m.same;
+          same = ap (λ (x : ℕ). lists_meet f (plans - (i + 1)) (i + 1) (at + 2 * x)) c ∙ sym (rw (one_more, add-one i) (rw (eq-eqb (offset_in f i) at (sym q ∙ e)))) ∙ m.same;
         }
 
 -- the tests of a file, one after the other
@@ -107,14 +114,25 @@ formed_is f e =
       meet = g.1;
     }
 
-module _ {f : List ℕ} (z : Formed f) where
-  pub lists_gapless : Gapless (offset_in f) (size_in f) (length f) (plans_in f) (entry_place (plans_in f))
-  lists_gapless = meets_gapless (offset_in f) (size_in f) (length f) (plans_in f) (entry_place (plans_in f)) z.some z.meet
+-- where lists meet, each lies inside the file
+pub meets-low : (f : List ℕ) (k i at : ℕ) → lists_meet f k i at ≡ true → at ≤ length f
+unfolding lists_meet
+meets-low f zero i at e = omega (arith, eqb-true at (length f) e)
+meets-low f (suc k) i at e = omega (arith, meets-low f k (suc i) (at + 2 * count_in f i) (both (eqb (offset_in f i) at) (lists_meet f k (suc i) (at + 2 * count_in f i)) e).1)
 
-  -- every entry and every list lies inside the file
-  module _ (i : ℕ) (h : i < plans_in f) where
-    pub entry_inside : entry_place i + 20 ≤ length f
-    entry_inside = omega (arith, z.header)
+pub meets-inside : (f : List ℕ) (k i at j : ℕ) → lists_meet f k i at ≡ true → i ≤ j → j < i + k → offset_in f j + 2 * count_in f j ≤ length f
+unfolding lists_meet
+meets-inside f zero i at j e h l = absurd (let z : ⊥ = omega arith in z)
+meets-inside f (suc k) i at j e h l =
+    let p = both (eqb (offset_in f i) at) (lists_meet f k (suc i) (at + 2 * count_in f i)) e in
+    ⊎_elim
+    (λ (q : i ≡ j). subst (λ (x : ℕ). offset_in f x + 2 * count_in f x ≤ length f) q (omega (arith, eqb-true (offset_in f i) at p.0, meets-low f k (suc i) (at + 2 * count_in f i) p.1)))
+    (λ q. meets-inside f k (suc i) (at + 2 * count_in f i) j p.1 q (omega arith))
+    (eq-or-lt_of_le h)
 
-    pub list_inside : offset_in f i + 2 * count_in f i ≤ length f
-    list_inside = inside (offset_in f) (size_in f) (length f) lists_gapless i h
+module _ {f : List ℕ} (z : Formed f) (i : ℕ) (h : i < plans_in f) where
+  pub entry_inside : entry_place i + 20 ≤ length f
+  entry_inside = omega (arith, z.header)
+
+  pub list_inside : offset_in f i + 2 * count_in f i ≤ length f
+  list_inside = meets-inside f (plans_in f) 0 (entry_place (plans_in f)) i z.meet (omega arith) (omega arith)

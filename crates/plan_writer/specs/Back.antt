@@ -6,7 +6,6 @@ use Rattle.std.proofs.Common.{◌∙◌, subst, zero-add, add-zero, suc-add, add
 use native.Mathlib.Omega.{arith}
 use Rattle.std.proofs.Math.Dec.{eqb}
 use Rattle.std.proofs.Math.ListN.{length, length-append}
-use Rattle.laws.specs.Gapless.{meet}
 use Rattle.laws.specs.Members.{All}
 use Rattle.laws.specs.Outcome.{clear, first, clear_front, clear_back}
 use Rattle.laws.specs.Run.{get_or_run, run_get_or, run_same, length_run}
@@ -123,7 +122,7 @@ module _ (f : List ℕ) where
 
   -- the lists meet, to the end
   laid_meet : (ss : List Set) (p q r : List ℕ) (i at : ℕ) → Laid p q r ss i at → lists_meet f (length ss) i at ≡ eqb (at + 2 * total_of ss) (length f)
-  unfolding meet
+  unfolding lists_meet
   laid_meet [] p q r i at z = ap (λ (k : ℕ). eqb k (length f)) (let e : at ≡ at + 2 * 0 = omega arith in e)
   laid_meet (s ∷ ss) p q r i at z =
       let e = head_read z in

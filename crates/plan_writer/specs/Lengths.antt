@@ -1,7 +1,6 @@
 -- The lengths of a file's parts, and of the whole.
 use Rattle.std.specs.Prelude.{ℕ, ◌+◌, ◌*◌, List, [], ◌∷◌, ◌++◌, ◌≡◌, refl, length}
 use Rattle.std.proofs.Common.{ap, ◌∙◌, arith, length-append}
-use Rattle.laws.specs.Chained.{chained_length}
 use Rattle.laws.specs.Run.{length_run}
 use Rattle.big_end.specs.Numbers.{number_bytes, pair_bytes}
 use Rattle.sets.specs.declared.Set.{Set}
@@ -16,7 +15,8 @@ entry_length s at = refl
 
 pub list_length : (vs : List ℕ) → length (list_bytes vs) ≡ 2 * length vs
 unfolding list_bytes
-list_length vs = chained_length pair_bytes 2 (λ v. refl) vs
+list_length [] = refl
+list_length (v ∷ vs) = omega (arith, list_length vs)
 
 pub listed_length : (s : Set) → length (list_bytes (list_of s)) ≡ 2 * s.n
 listed_length s = list_length (list_of s) ∙ ap (λ (k : ℕ). 2 * k) (length_run (L s) 0 s.n)
@@ -37,3 +37,9 @@ unfolding file_of file_length
 file_length_lem ss =
     length-append (number_bytes (length ss)) (entries_bytes ss (entry_place (length ss)) ++ lists_bytes ss)
     ∙ omega (arith, length-append (entries_bytes ss (entry_place (length ss))) (lists_bytes ss), entries_length ss (entry_place (length ss)), lists_length ss)
+
+-- a list of addresses in two parts
+pub list-join : (vs ws : List ℕ) → list_bytes (vs ++ ws) ≡ list_bytes vs ++ list_bytes ws
+unfolding list_bytes
+list-join [] ws = refl
+list-join (v ∷ vs) ws = ap (λ (l : List ℕ). pair_bytes v ++ l) (list-join vs ws)

@@ -1,17 +1,26 @@
 -- The three parts of a file, stored one after the other in a buffer of its length, make the file.
-use Rattle.std.specs.Prelude.{ℕ, ◌+◌, ◌*◌, List, ◌++◌, ◌≡◌, length}
+use Rattle.std.specs.Prelude.{ℕ, ◌+◌, ◌*◌, List, [], ◌∷◌, ◌++◌, ◌≡◌, length, take}
+use Rattle.std.proofs.Common.{append-nil, ap₂, ◌∙◌, arith, drop_of_length-le}
 use Rattle.std.proofs.Math.Path.{refl, sym, ap}
-use Rattle.std.proofs.Common.{◌∙◌, arith}
-use Rattle.std.proofs.lemmas.List.Edits.{sets}
-use Rattle.laws.specs.Chained.{sets_then}
-use Rattle.laws.specs.Parts.{sets_whole}
+use Rattle.std.proofs.lemmas.List.Edits.{sets, sets-eq}
 use Rattle.laws.specs.Run.{run, length_run}
 use Rattle.big_end.specs.Numbers.{number_bytes}
+use Rattle.big_end.specs.Stores.{sets_then}
 use Rattle.sets.specs.declared.Set.{Set}
 use Rattle.plan_form.specs.Form.{entry_place}
 use Rattle.plan_writer.specs.File.{set_at, entries_bytes, lists_bytes, file_of, total_of, file_length}
 use Rattle.plan_writer.specs.Lengths.{entries_length, file_length_lem}
 use Rattle.plan_writer.specs.Storing.{Filed}
+
+sets_whole : (o v : List ℕ) → length o ≡ length v → sets o 0 v ≡ v
+sets_whole o v e =
+    sets-eq v o 0 (omega arith)
+    ∙ ap₂ (λ (a b : List ℕ). a ++ v ++ b) (front o) (drop_of_length-le o {i = 0 + length v} (omega arith))
+    ∙ append-nil ([] ++ v)
+  where
+    front : (l : List ℕ) → take 0 l ≡ []
+    front [] = refl
+    front (x ∷ xs) = refl
 
 module _ {numbers : List ℕ} {count : ℕ} (o₀ : List ℕ) (z : Filed numbers count (length o₀)) where
   abbrev sets_of : List Set

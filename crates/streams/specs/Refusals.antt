@@ -1,12 +1,30 @@
 -- The refusals of start and feed in the sentences of the paper, in the order of the checks: 9 and 7 of a start; 9, 7, 9 and 6 of a feed.
-use Rattle.std.specs.Prelude.{ℕ, ◌≢◌, ◌↔◌, ◌≡◌, List, [], ◌∷◌, length}
+use Rattle.std.specs.Prelude.{ℕ, Bool, true, false, ◌||◌, ◌≢◌, ◌↔◌, ◌⊎◌, ◌≡◌, refl, List, [], ◌∷◌, length, eqb}
+use Rattle.std.proofs.Common.{inl, inr, eqb-true}
 use Rattle.laws.specs.Outcome.{refused}
 use Rattle.laws.specs.Sentences.{Sentence, sentence, FirstTrue, Told, none, told_differ, said_exactly, kept_alone}
 use Rattle.laws.specs.Told.{told_unless}
-use Rattle.kinds.specs.Kinds.{sizes_of, start_record}
-use Rattle.kinds.specs.Ranges.{Known, known_is, is_known, Ranges, ranges, range_in}
+use Rattle.kinds.specs.Kinds.{known, sizes_of, start_record}
+use Rattle.kinds.specs.Ranges.{Ranges, ranges, range_in}
 use Rattle.streams.specs.Fed.{start_store, fed_output, fed_store, fed_record}
 use Rattle.streams.specs.Answers.{start_lines, started_of, started_record, started_store, Call, lines_of, says, record_after, store_after, output_after}
+
+-- kinds are 1 and 2
+abbrev pub Known : ℕ → Type 0
+Known k = (k ≡ 1) ⊎ (k ≡ 2)
+
+pub known_is : (k : ℕ) → known k ≡ true → Known k
+unfolding known
+known_is k e = go (eqb k 1) refl e
+  where
+    go : (b : Bool) → eqb k 1 ≡ b → (b || eqb k 2) ≡ true → Known k
+    go true q e = inl (eqb-true k 1 q)
+    go false q e = inr (eqb-true k 2 e)
+
+pub is_known : (k : ℕ) → Known k → known k ≡ true
+unfolding known
+is_known k (inl e) = rw e
+is_known k (inr e) = rw e
 
 module _ {A : Type 0} where
   -- 9: the kind is unknown; 7: the store isn't the kind's

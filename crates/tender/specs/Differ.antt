@@ -4,13 +4,12 @@ use Rattle.std.proofs.lemmas.Bool.{false≢true}
 use mathlib.Core.List.Memᴰ
 use mathlib.Core.List.{List, [], ◌∷◌, ◌++◌, Memᴰ}
 use Rattle.std.proofs.Common.{sym, ap, subst, ◌∙◌, arith, ltb-true, ltb-false}
-use Rattle.laws.specs.Gapless.{meet}
 use Rattle.laws.specs.Keep.{keep}
 use Rattle.laws.specs.Members.{chained}
 use Rattle.laws.specs.Run.{run}
 use Rattle.big_end.specs.Numbers.{number_at, pair_at}
 use Rattle.plan_form.specs.declared.Place.TheVariants.{Address}
-use Rattle.plan_form.specs.Form.{plans_in, set_in, addresses_at, list_in, formed}
+use Rattle.plan_form.specs.Form.{plans_in, set_in, addresses_at, list_in, lists_meet, formed}
 use Rattle.plan_form.specs.Gapless.{PlanFile, formed_exactly}
 use Rattle.plan_form.specs.Lists.{wrongs_from, wrongs, place_of}
 use Rattle.plan_form.specs.Right.{Right, none_wrong, wrong_positions}
@@ -125,5 +124,5 @@ pub differ_stars : (formed one ≡ true) × (formed other ≡ true)
     × (differences one other ≡ At 1 1 (Address 16) (Address 17) ∷ [])
     × (differences one one ≡ [])
     × (formed (one ++ (0 ∷ [])) ≡ false)
-unfolding number_at pair_at set_in addresses_at meet formed wrongs_from same_header lists_differ plan_differs some_differ differ_from keep
+unfolding number_at pair_at set_in addresses_at lists_meet formed wrongs_from same_header lists_differ plan_differs some_differ differ_from keep
 differ_stars = (refl, refl, refl, refl, refl)

@@ -13,7 +13,7 @@ use Rattle.delay.specs.Standing.{output_number, store_number}
 use Rattle.delay.specs.Delay.{late_early, late_from}
 use Rattle.kinds.specs.declared.Stream.{Stream}
 use Rattle.kinds.specs.Kinds.{sizes_of, machine_of, stand_of, start_record}
-use Rattle.kinds.specs.Ranges.{Known, is_known, Ranges, range_in, within}
+use Rattle.kinds.specs.Ranges.{Ranges, range_in, within}
 use Rattle.streams.specs.declared.Answer.{Answer}
 use Rattle.streams.specs.Fed.{start_store, fed_output, fed_store, fed_record}
 use Rattle.streams.specs.Answers.{say, started_of, started_record, started_store, Call, call, says, record_after, store_after, output_after}
@@ -23,7 +23,7 @@ use Rattle.streams.specs.Condition3 as condition3
 use Rattle.streams.specs.Ready as readiness
 use Rattle.streams.specs.Ready.{Stood, Ready}
 use Rattle.streams.specs.Blind as blindness
-use Rattle.streams.specs.Refusals.{start_sentences, feed_sentences}
+use Rattle.streams.specs.Refusals.{Known, is_known, start_sentences, feed_sentences}
 use Rattle.streams.specs.Refusals as refusals
 
 -- the two kinds by their numbers: branches, bytes of a step, bytes of the store

@@ -12,7 +12,7 @@ next-multiple-requires : tie.Need-next-multiple-requires
 next-multiple-requires c κs = (omega arith, omega arith, c.before.requires.1)
 
 returns : tie.Need-returns
-returns c = next_by_four _ _ _ _ c.before.before.requires.0 (rw (← c.before.at_least_lem.ensures) c.next_multiple.ensures)
+returns c = next_by_four _ _ _ _ c.before.before.requires.0 (rw (← c.before.at_least.ensures) c.next_multiple.ensures)
 
 pub next_by_four_spec : {M : Type 1} → statement M
 next_by_four_spec = tie.close (tie.spec at-least-requires next-multiple-requires returns)

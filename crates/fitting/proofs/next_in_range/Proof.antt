@@ -9,11 +9,11 @@ at-least-requires : tie.Need-at-least-requires
 at-least-requires c κs = search rules
 
 returns : tie.Need-returns
-returns c = none_range _ _ _ (omega (arith, c.if1.true, c.before.at_least_lem.ensures))
+returns c = none_range _ _ _ (omega (arith, c.if1.true, c.before.at_least.ensures))
 
 returns-2 : tie.Need-returns-2
 returns-2 c =
-    let e = c.before.at_least_lem.ensures in
+    let e = c.before.at_least.ensures in
     rw e (next_range _ _ _ c.before.before.requires (omega (arith, c.if1.false, e)))
 
 pub next_in_range_spec : {M : Type 1} → statement M

@@ -16,16 +16,16 @@ at-least-requires c κs = search rules
 mul-up : tie.Need-overflow-mul-up
 mul-up c =
     let p = c.before.before.requires in
-    record { fits = omega (arith, div-mul-le_self (c.at_least_lem.result + (c.before.before.args.u - 1)) c.before.before.args.u, c.at_least_lem.ensures, c.before.if1.false, p.1, p.2) }
+    record { fits = omega (arith, div-mul-le_self (c.at_least.result + (c.before.before.args.u - 1)) c.before.before.args.u, c.at_least.ensures, c.before.if1.false, p.1, p.2) }
 
 returns-2 : tie.Need-returns-2
 returns-2 c =
-    let e = c.before.at_least_lem.ensures in
+    let e = c.before.at_least.ensures in
     none_multiple _ _ _ c.before.before.before.requires.0 (rw (← e) (omega (arith, c.if2.true)))
 
 returns-3 : tie.Need-returns-3
 returns-3 c =
-    let e = c.before.at_least_lem.ensures in
+    let e = c.before.at_least.ensures in
     rw e (next_multiple _ _ _ c.before.before.before.requires.0 (rw (← e) (omega (arith, c.if2.false))))
 
 pub next_multiple_spec : {M : Type 1} → statement M

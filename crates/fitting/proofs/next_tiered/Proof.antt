@@ -14,12 +14,12 @@ step-by-requires c κs = search rules
 next-multiple-requires : tie.Need-next-multiple-requires
 next-multiple-requires c κs =
     let s = c.step_by.ensures in
-    (s.1, omega (arith, s.0, step_small c.before.at_least_lem.result), c.before.before.requires.1)
+    (s.1, omega (arith, s.0, step_small c.before.at_least.result), c.before.before.requires.1)
 
 returns : tie.Need-returns
 returns c =
     let a = c.before.before in
-    let e = a.at_least_lem.ensures in
+    let e = a.at_least.ensures in
     next_tiered _ _ _ _ a.before.requires.0 (rw (← e, ← c.before.step_by.ensures.0) c.next_multiple.ensures)
 
 pub next_tiered_spec : {M : Type 1} → statement M

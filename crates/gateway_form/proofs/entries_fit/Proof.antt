@@ -52,7 +52,7 @@ entry-fits-requires c κs = (ap length c.before.before.entry_at.ensures ∙ leng
 
 -- src/lib.rt:139:13
 returns : tie.Need-returns invariant-loop decreases-loop
-returns c = entry_bad c.before.before.before.before.before.before.loop.invariant c.before.before.before.before.before.loop-test.true c.before.before.before.before.entry_at.ensures (fails c.before.entry_fits_lem.ensures c.if1.true)
+returns c = entry_bad c.before.before.before.before.before.before.loop.invariant c.before.before.before.before.before.loop-test.true c.before.before.before.before.entry_at.ensures (fails c.before.entry_fits.ensures c.if1.true)
 
 -- src/lib.rt:141:12
 offset-of-requires : tie.Need-offset-of-requires invariant-loop decreases-loop
@@ -68,7 +68,7 @@ length-of-requires c κs = ap length c.before.before.before.before.before.before
 
 -- src/lib.rt:144:9
 add-share-2 : tie.Need-overflow-add-share-2 invariant-loop decreases-loop
-add-share-2 c = omega (arith, c.before.before.before.before.before.before.before.before.before.loop.invariant.small, c.before.before.before.before.before.before.before.before.loop-test.true, c.before.before.before.before.before.before.before.before.before.before.before.before.before.requires.0, c.length-of.ensures.0, fits_low _ (passes c.before.before.before.before.entry_fits_lem.ensures c.before.before.before.if1.false))
+add-share-2 c = omega (arith, c.before.before.before.before.before.before.before.before.before.loop.invariant.small, c.before.before.before.before.before.before.before.before.loop-test.true, c.before.before.before.before.before.before.before.before.before.before.before.before.before.requires.0, c.length-of.ensures.0, fits_low _ (passes c.before.before.before.before.entry_fits.ensures c.before.before.before.if1.false))
 
 -- src/lib.rt:145:9
 add_at : tie.Need-overflow-add-at invariant-loop decreases-loop
@@ -84,7 +84,7 @@ loop-less c = search rules
 
 -- src/lib.rt:136:5
 loop-again : tie.Need-loop-preserved invariant-loop decreases-loop
-loop-again c = testing_more c.before.before.before.before.before.before.before.before.before.loop.invariant c.before.before.before.before.before.before.before.before.loop-test.true c.before.before.before.before.before.before.before.entry_at.ensures (passes c.before.before.before.before.entry_fits_lem.ensures c.before.before.before.if1.false) (sym c.before.before.offset-of.ensures.0 ∙ c.before.if2.false) c.length-of.ensures.0
+loop-again c = testing_more c.before.before.before.before.before.before.before.before.before.loop.invariant c.before.before.before.before.before.before.before.before.loop-test.true c.before.before.before.before.before.before.before.entry_at.ensures (passes c.before.before.before.before.entry_fits.ensures c.before.before.before.if1.false) (sym c.before.before.offset-of.ensures.0 ∙ c.before.if2.false) c.length-of.ensures.0
 
 -- src/lib.rt:127:1
 returns-3 : tie.Need-returns-3 invariant-loop decreases-loop

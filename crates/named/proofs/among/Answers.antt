@@ -1,6 +1,5 @@
 -- `named::among`: word after word, those of the kind counted.
 use borrow.Author.Rules.{rules}
-use Prim.Native.Nat.{◌-◌}
 use Rattle.named.specs.Named.{pick_first, pick_none, pick_empty, pick_found, pick_passed, pick_other}
 use Rattle.named.proofs.among.Goals as goal
 use Rattle.named.proofs.among.Goals.{then-is_named-named+else-left-eq0, else-is_named-named}
@@ -28,9 +27,10 @@ loop-j-preserved c =
     let e = c.word-w.ensures in
     let n = c.if-w-eq0.false in
     let b = c.is_named.ensures in
-    elim c.if-is_named-named.branch
-      [ then-is_named-named+else-left-eq0 w ↦ rw w.left-is (pick_passed p (search rules) e n b w.if-is_named-named.true w.if-left-eq0.false)
-      | else-is_named-named w ↦ rw w.left-is (pick_other p (search rules) e n b w.if-is_named-named.false) ]
+    elim c.if-is_named-named.branch [
+      | then-is_named-named+else-left-eq0 w ↦ rw w.left-is (pick_passed p (search rules) e n b w.if-is_named-named.true w.if-left-eq0.false)
+      | else-is_named-named w ↦ rw w.left-is (pick_other p (search rules) e n b w.if-is_named-named.false)
+    ]
 
 pub returns : goal.returns
 returns c = pick_none c.loop-j.invariant (search rules)

@@ -1,6 +1,5 @@
 -- `named::mark` is where the first `=` or `/` stands.
 use borrow.Author.Rules.{rules}
-use Prim.Native.Nat.{◌-◌}
 use Rattle.named.specs.Named.{mark_first, mark_none, mark_equals, mark_slash, mark_goes}
 use Rattle.named.proofs.mark.Goals as goal
 

@@ -30,7 +30,7 @@ same-header-requires c κs =
     (having c.before.before.before.before.before.before.requires.0.is_formed (rw c.before.before.before.plans-in.ensures.0 at c.before.before.if1.false), having c.before.before.before.before.before.before.requires.1.is_formed (rw c.before.plans-in2.ensures.0 at c.if2.false))
 
 returns-3 : tie.Need-returns-3
-returns-3 c = plan_header _ _ _ _ c.before.before.before.before.before.plans-in.ensures.0 c.before.before.before.before.if1.false c.before.before.before.plans-in2.ensures.0 c.before.before.if2.false c.before.same_header_lem.ensures c.if3.true
+returns-3 c = plan_header _ _ _ _ c.before.before.before.before.before.plans-in.ensures.0 c.before.before.before.before.if1.false c.before.before.before.plans-in2.ensures.0 c.before.before.if2.false c.before.same_header.ensures c.if3.true
 
 differ-lists-requires : tie.Need-differ-lists-requires
 differ-lists-requires c κs = (
@@ -41,7 +41,7 @@ differ-lists-requires c κs = (
 
 returns-4 : tie.Need-returns-4
 returns-4 c = c.differ-lists.ensures
-    ∙ plan_lists _ _ _ _ c.before.before.before.before.before.before.plans-in.ensures.0 c.before.before.before.before.before.if1.false c.before.before.before.before.plans-in2.ensures.0 c.before.before.before.if2.false c.before.before.same_header_lem.ensures c.before.if3.false
+    ∙ plan_lists _ _ _ _ c.before.before.before.before.before.before.plans-in.ensures.0 c.before.before.before.before.before.if1.false c.before.before.before.before.plans-in2.ensures.0 c.before.before.before.if2.false c.before.before.same_header.ensures c.before.if3.false
 
 pub differ_plan_spec : {M : Type 1} → statement M
 differ_plan_spec =

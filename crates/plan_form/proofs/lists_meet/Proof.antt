@@ -2,7 +2,7 @@
 -- that are left.
 use Prim.Native.Nat.{◌-◌}
 use native.Mathlib.Omega.{arith}
-use Rattle.plan_form.specs.Meets.{Meeting, meet_first, meet_end, meet_not, meet_next}
+use Rattle.plan_form.specs.Meets.{Meeting, meet_first, meet_end, meet_apart, meet_more}
 use borrow.Author.Rules.{rules}
 use Rattle.plan_form.proofs.lists_meet.Statement.{statement}
 use Rattle.plan_form.proofs.lists_meet.Tie as tie
@@ -38,7 +38,7 @@ cast-offset : tie.Need-overflow-cast-offset invariant-loop decreases-loop
 cast-offset c = search rules
 
 returns : tie.Need-returns invariant-loop decreases-loop
-returns c = meet_not c.before.before.before.loop.invariant c.before.before.loop-test.true c.before.number_at.ensures (λ e. omega (arith, e, c.if1.true))
+returns c = meet_apart c.before.before.before.loop.invariant c.before.before.loop-test.true c.before.number_at.ensures (λ e. omega (arith, e, c.if1.true))
 
 add-number-at-2 : tie.Need-overflow-add-number-at-2 invariant-loop decreases-loop
 add-number-at-2 c = search rules
@@ -62,7 +62,7 @@ loop-less : tie.Need-loop-smaller invariant-loop decreases-loop
 loop-less c = search rules
 
 loop-again : tie.Need-loop-preserved invariant-loop decreases-loop
-loop-again c = meet_next c.before.before.before.before.loop.invariant c.before.before.before.loop-test.true c.before.before.number_at.ensures (omega (arith, c.before.if1.false)) c.number-at2.ensures (search rules)
+loop-again c = meet_more c.before.before.before.before.loop.invariant c.before.before.before.loop-test.true c.before.before.number_at.ensures (omega (arith, c.before.if1.false)) c.number-at2.ensures (search rules)
 
 returns-2 : tie.Need-returns-2 invariant-loop decreases-loop
 returns-2 c = meet_end c.before.loop.invariant c.loop-test.false

@@ -1,7 +1,5 @@
 -- `plan_writer::put_entry` stores five numbers, one after the other.
-use Rattle.big_end.specs.Numbers.{number_bytes}
-use Rattle.big_end.specs.Stores.{numbers_put}
-use Rattle.plan_writer.specs.File.{entry_bytes}
+use Rattle.plan_writer.specs.Storing.{entry-put}
 use borrow.Author.Rules.{rules}
 use Rattle.plan_writer.proofs.put_entry.Statement.{statement}
 use Rattle.plan_writer.proofs.put_entry.Tie as tie
@@ -37,11 +35,7 @@ same_length : tie.Need-same-length
 same_length c = search rules
 
 returns : tie.Need-returns
-unfolding entry_bytes
-returns c =
-    let a = c.before.before.before.before.before.before.before.before.before.before.before.before.before.before.before.before.before.before.before.before.before.args in
-    numbers_put a.out.now a.at a.set.profile a.set.bits a.set.n a.offset (number_bytes a.set.n)
-    c.before.before.before.before.before.before.before.before.before.before.before.before.before.before.before.before.before.before.put_number.ensures c.before.before.before.before.before.before.before.before.before.before.before.before.before.before.put-number2.ensures c.before.before.before.before.before.before.before.before.before.before.put-number3.ensures c.before.before.before.before.before.before.put-number4.ensures c.before.before.put-number5.ensures
+returns c = entry-put _ _ _ _ c.before.before.before.before.before.before.before.before.before.before.before.before.before.before.before.before.before.before.put_number.ensures c.before.before.before.before.before.before.before.before.before.before.before.before.before.before.put-number2.ensures c.before.before.before.before.before.before.before.before.before.before.put-number3.ensures c.before.before.before.before.before.before.put-number4.ensures c.before.before.put-number5.ensures
 
 pub put_entry_spec : {M : Type 1} → statement M
 put_entry_spec =

@@ -35,7 +35,7 @@ put-list-requires : tie.Need-put-list-requires invariant-loop decreases-loop
 put-list-requires c κs =
     let i = c.before.before.before.before.before.loop.invariant in (
       next_good i.1.rest c.before.before.before.before.loop-test.true c.before.before.before.set-of.ensures,
-      omega (arith, next_fits i.1.rest c.before.before.before.before.loop-test.true c.before.before.before.set-of.ensures, i.1.stored.size),
+      omega (arith, next_fits i.1.rest c.before.before.before.before.loop-test.true c.before.before.before.set-of.ensures, i.1.size),
       omega (arith, i.0, c.before.before.before.before.before.before.before.before.before.requires.1),
     )
 
@@ -55,7 +55,7 @@ loop-again : tie.Need-loop-preserved invariant-loop decreases-loop
 loop-again c = (search rules, enlist_more c.before.before.before.before.before.before.before.before.before.before.loop.invariant.1 c.before.before.before.before.before.before.before.before.before.loop-test.true c.before.before.before.before.before.before.before.before.set-of.ensures c.before.before.before.before.put-list.ensures)
 
 same_length : tie.Need-same-length invariant-loop decreases-loop
-same_length c = c.before.loop.invariant.1.stored.size
+same_length c = c.before.loop.invariant.1.size
 
 same-length-2 : tie.Need-same-length-2 invariant-loop decreases-loop
 same-length-2 c = c.before.loop.invariant.0

@@ -1,26 +1,22 @@
 -- `plan_writer::put_piece` stores a piece. The loop's invariant: what is still to be stored, stored from here, makes the whole; the measure is what is left.
-use Prim.Native.Nat.{◌+◌, ◌-◌, ◌*◌}
+use Prim.Native.Nat.{◌-◌}
 use native.Mathlib.Omega.{arith}
-use mathlib.Core.Path.{◌≡◌, sym}
+use mathlib.Core.Path.{sym}
 use lib.ListN.{take}
 use lib.Seq.{length-take-le, get_or-take}
-use Rattle.laws.specs.Chained.{Storing, storing_first, storing_end, storing_more}
-use Rattle.big_end.specs.Numbers.{pair_bytes}
-use Rattle.plan_writer.specs.File.{list_bytes}
+use Rattle.plan_writer.specs.Listing.{Putting, put_first, put_end, put_more}
 use borrow.Author.Rules.{rules}
 use Rattle.plan_writer.proofs.put_piece.Statement.{statement}
 use Rattle.plan_writer.proofs.put_piece.Tie as tie
 
 abbrev invariant-loop : tie.invariant-loop
-invariant-loop out₀ at piece written j₀ out j = Storing pair_bytes (take written piece) at out₀ out (at + 2 * j) j
+invariant-loop out₀ at piece written j₀ out j = Putting out₀ at (take written piece) out j
 
 abbrev decreases-loop : tie.decreases-loop
 decreases-loop out₀ at piece written j₀ out j = written - j
 
 loop-holds : tie.Need-loop-init invariant-loop decreases-loop
-loop-holds c =
-    let at = c.before.before.args.at in
-    rw (let e : at + 2 * 0 ≡ at = omega arith in e) (storing_first pair_bytes _ at _)
+loop-holds c = put_first _ _ _
 
 mul-put-pair : tie.Need-overflow-mul-put-pair invariant-loop decreases-loop
 mul-put-pair c = search rules
@@ -46,17 +42,16 @@ loop-less c = search rules
 loop-again : tie.Need-loop-preserved invariant-loop decreases-loop
 loop-again c =
     let a = c.before.before.before.before.before.before.before.before.before.args in
-    storing_more pair_bytes c.before.before.before.before.before.before.loop.invariant (omega (arith, length-take-le a.written a.piece.now c.before.before.before.before.before.before.before.before.before.requires.0, c.before.before.before.before.before.loop-test.true)) 0
-    (sym (get_or-take a.written a.piece.now _ 0 c.before.before.before.before.before.loop-test.true)) c.before.before.put-pair.ensures (omega arith)
+    put_more c.before.before.before.before.before.before.loop.invariant (omega (arith, length-take-le a.written a.piece.now c.before.before.before.before.before.before.before.before.before.requires.0, c.before.before.before.before.before.loop-test.true))
+    (sym (get_or-take a.written a.piece.now _ 0 c.before.before.before.before.before.loop-test.true)) c.before.before.put-pair.ensures
 
 same_length : tie.Need-same-length invariant-loop decreases-loop
 same_length c = c.before.loop.invariant.size
 
 returns : tie.Need-returns invariant-loop decreases-loop
-unfolding list_bytes
 returns c =
     let a = c.before.before.before.before.args in
-    storing_end pair_bytes c.before.loop.invariant (omega (arith, length-take-le a.written a.piece.now c.before.before.before.before.requires.0, c.loop-test.false))
+    put_end c.before.loop.invariant (omega (arith, length-take-le a.written a.piece.now c.before.before.before.before.requires.0, c.loop-test.false))
 
 pub put_piece_spec : {M : Type 1} → statement M
 put_piece_spec =

@@ -20,7 +20,7 @@ returns-2 c =
     let v = r.before.before in
     let n = v.before.before in
     last_out _ n.before.before.line-end.ensures n.number_in.ensures _ v.last.given.1
-    (sym r.is_range_lem.ensures ∙ not-true _ c.if1.true)
+    (sym r.is_range.ensures ∙ not-true _ c.if1.true)
 
 returns-3 : tie.Need-returns-3
 returns-3 c =
@@ -28,7 +28,7 @@ returns-3 c =
     let v = r.before.before in
     let n = v.before.before in
     last_in _ n.before.before.line-end.ensures n.number_in.ensures _ v.last.given.1
-    (sym r.is_range_lem.ensures ∙ not-false _ c.if1.false)
+    (sym r.is_range.ensures ∙ not-false _ c.if1.false)
 
 pub asked_last_spec : {M : Type 1} → statement M
 asked_last_spec =

@@ -25,7 +25,7 @@ returns-3 c =
     let n = v.before.before in
     let i = n.before.before in
     settled_out _ i.before.line-end.ensures n.number_in.ensures i.if1.false v.first.given.1
-    (sym z.is_size_lem.ensures ∙ not-true _ c.if2.true)
+    (sym z.is_size.ensures ∙ not-true _ c.if2.true)
 
 returns-4 : tie.Need-returns-4
 returns-4 c =
@@ -35,7 +35,7 @@ returns-4 c =
     let n = v.before.before in
     let i = n.before.before in
     settled_in _ i.before.line-end.ensures n.number_in.ensures i.if1.false v.first.given.1
-    (sym z.is_size_lem.ensures ∙ not-false _ t.if2.false) c.can-begin2.ensures
+    (sym z.is_size.ensures ∙ not-false _ t.if2.false) c.can-begin2.ensures
 
 pub settled_spec : {M : Type 1} → statement M
 settled_spec =

@@ -27,7 +27,7 @@ bits_passed : (e : tie.Else2) → bits_listed (size_of e.before.before.before.be
 bits_passed e = passes e.before.bits-listed.ensures e.if2.false
 
 size_passed : (e : tie.Else3) → size_listed (size_of e.before.before.before.before.before.before.args.set) ≡ true
-size_passed e = passes e.before.size_listed_lem.ensures e.if3.false
+size_passed e = passes e.before.size_listed.ensures e.if3.false
 
 abbrev asked : tie.Else4 → Set
 asked e = e.before.before.before.before.before.before.before.before.args.set
@@ -57,7 +57,7 @@ returns-3 : tie.Need-returns-3
 unfolding set_lines
 returns-3 c =
     let e = c.before.before in
-    simp (profile_passed e.before.before, bits_passed e, fails c.before.size_listed_lem.ensures c.if3.true)
+    simp (profile_passed e.before.before, bits_passed e, fails c.before.size_listed.ensures c.if3.true)
 
 returns-4 : tie.Need-returns-4
 unfolding set_lines

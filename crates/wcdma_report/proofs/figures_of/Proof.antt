@@ -16,16 +16,16 @@ returns c =
     let s = c.before in
     let i = s.before in
     ap refused (c.refusal-of.ensures ∙ ap (λ (x : Set). refusal x 3) s.turbo-set.ensures)
-    ∙ simp (sym i.before.is_size_lem.ensures ∙ not-true _ i.if1.true)
+    ∙ simp (sym i.before.is_size.ensures ∙ not-true _ i.if1.true)
 
 figures-in-requires : tie.Need-figures-in-requires
-figures-in-requires c κs = is_size_lem _ (sym c.before.is_size_lem.ensures ∙ not-false _ c.if1.false)
+figures-in-requires c κs = is_size_lem _ (sym c.before.is_size.ensures ∙ not-false _ c.if1.false)
 
 returns-2 : tie.Need-returns-2
 unfolding figures_of
 returns-2 c =
     let i = c.before in
-    ap done c.figures-in.ensures ∙ simp (sym i.before.is_size_lem.ensures ∙ not-false _ i.if1.false)
+    ap done c.figures-in.ensures ∙ simp (sym i.before.is_size.ensures ∙ not-false _ i.if1.false)
 
 pub figures_of_spec : {M : Type 1} → statement M
 figures_of_spec =

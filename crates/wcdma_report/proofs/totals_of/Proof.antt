@@ -10,16 +10,16 @@ use Rattle.wcdma_report.proofs.totals_of.Tie as tie
 
 returns : tie.Need-returns
 unfolding totals_of
-returns c = simp (sym c.before.is_range_lem.ensures ∙ not-true _ c.if1.true)
+returns c = simp (sym c.before.is_range.ensures ∙ not-true _ c.if1.true)
 
 totals-in-requires : tie.Need-totals-in-requires
-totals-in-requires c κs = is_range_lem _ _ (sym c.before.is_range_lem.ensures ∙ not-false _ c.if1.false)
+totals-in-requires c κs = is_range_lem _ _ (sym c.before.is_range.ensures ∙ not-false _ c.if1.false)
 
 returns-2 : tie.Need-returns-2
 unfolding totals_of
 returns-2 c =
     let i = c.before in
-    ap done c.totals-in.ensures ∙ simp (sym i.before.is_range_lem.ensures ∙ not-false _ i.if1.false)
+    ap done c.totals-in.ensures ∙ simp (sym i.before.is_range.ensures ∙ not-false _ i.if1.false)
 
 pub totals_of_spec : {M : Type 1} → statement M
 totals_of_spec = tie.close (tie.spec (λ c κs. search rules) returns totals-in-requires returns-2)

@@ -71,7 +71,7 @@ laid c = c.before.before.before.before.before.before
 exchange-requires : tie.Need-exchange-requires
 exchange-requires c κs =
     let s = set_up (laid c.before.before.before) in
-    ((start s).pre.shape, s.is_full_lem.ensures)
+    ((start s).pre.shape, s.is_full.ensures)
 
 same_length : tie.Need-same-length
 same_length c = search rules

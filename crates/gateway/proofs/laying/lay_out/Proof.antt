@@ -99,7 +99,7 @@ returns-8 : tie.Need-returns-8
 returns-8 c =
     let a = c.before.before.before.before.before.before.before.before.before.before.before.before.before.before.before.before.before.before.before.args in
     let k = passed_test (every known a.kinds.now) (store_length a.kinds.now) (sym c.before.before.before.before.before.before.before.before.before.before.measure.ensures ∙ ap say_length c.before.before.before.before.before.before.before.before.bytes.given.1) in
-    lay_done a.kinds.now a.directions.now a.fills.now a.store.now (rw (le-leb _ _ c.before.before.before.before.before.before.before.before.before.before.before.before.before.before.if1.false, le-leb _ _ c.before.before.before.before.before.before.before.before.before.before.before.before.before.if2.false, eq-eqb _ _ c.before.before.before.before.before.before.before.before.before.before.before.before.if3.false, eq-eqb _ _ c.before.before.before.before.before.before.before.before.before.before.before.if4.false, k.0, passes c.before.before.before.before.before.before.all-directed.ensures c.before.before.before.before.before.if5.false, eq-eqb _ _ (c.before.before.before.before.if6.false ∙ sym k.1))) c.before.before.put_all_lem.ensures
+    lay_done a.kinds.now a.directions.now a.fills.now a.store.now (rw (le-leb _ _ c.before.before.before.before.before.before.before.before.before.before.before.before.before.before.if1.false, le-leb _ _ c.before.before.before.before.before.before.before.before.before.before.before.before.before.if2.false, eq-eqb _ _ c.before.before.before.before.before.before.before.before.before.before.before.before.if3.false, eq-eqb _ _ c.before.before.before.before.before.before.before.before.before.before.before.if4.false, k.0, passes c.before.before.before.before.before.before.all-directed.ensures c.before.before.before.before.before.if5.false, eq-eqb _ _ (c.before.before.before.before.if6.false ∙ sym k.1))) c.before.before.put_all.ensures
 
 pub lay_out_spec : {M : Type 1} → statement M
 lay_out_spec =

@@ -12,7 +12,7 @@ returns c =
     ∙ ap (λ (b : Bool). range_of b c.before.before.before.args.c) (sym c.before.before.if1.true)
 
 returns-2 : tie.Need-returns-2
-returns-2 c = c.all_below_lem.ensures ∙ ap (λ (b : Bool). range_of b c.before.before.args.c) (sym c.before.if1.false)
+returns-2 c = c.all_below.ensures ∙ ap (λ (b : Bool). range_of b c.before.before.args.c) (sym c.before.if1.false)
 
 pub factors_in_spec : {M : Type 1} → statement M
 factors_in_spec = tie.close (tie.spec (λ c κs. search rules) (λ c κs. search rules) returns (λ c κs. search rules) returns-2)

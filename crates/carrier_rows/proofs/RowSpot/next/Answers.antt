@@ -1,0 +1,21 @@
+-- `carrier_rows::RowSpot::next` is one column on, whatever the row and the column.
+use native.Mathlib.Nat.{mod-lt}
+use native.Mathlib.Omega.{arith}
+use Rattle.carrier_rows.specs.Row.{row_over, row_on, d_small}
+use Rattle.carrier_rows.proofs.RowSpot.next.Goals as goal
+
+pub lift_up-lift-requires : goal.lift_up-lift-requires
+lift_up-lift-requires c = (c.requires.lift_small, d_small c.requires)
+
+pub overflow_add-result : goal.overflow_add-result
+overflow_add-result c = let z = c.requires in omega (arith, z.group_is, z.group_small, z.base_small)
+
+pub returns-then-low-s : goal.returns-then-low-s
+returns-then-low-s c = λ row col p.
+    let z = c.requires in
+    rw z.group_is (row_over p c.lift_up-lift.result (c.lift_up-lift.ensures _ _ z.d_pos (mod-lt _ z.s_pos) p.lift_is z.top_is) (omega (arith, z.s_pos, c.if-low-s.true)))
+
+pub returns : goal.returns
+returns c = λ row col p.
+    let z = c.requires in
+    row_on p c.lift_up-lift.result (c.lift_up-lift.ensures _ _ z.d_pos (mod-lt _ z.s_pos) p.lift_is z.top_is) z.s_pos (λ e. c.if-low-s.false (omega (arith, e)))

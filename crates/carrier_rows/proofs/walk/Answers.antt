@@ -1,0 +1,18 @@
+-- `carrier_rows::walk` is the walk for L from any cell: 9 by its test, nothing with no room, and else what `write` wrote.
+use mathlib.Core.Path.{refl}
+use native.Mathlib.Omega.{arith}
+use Rattle.laws.specs.Leaves.{leaf_past, ran_leaf}
+use Rattle.carrier.specs.Once.{carrier_once}
+use Rattle.carrier_rows.proofs.walk.Goals as goal
+
+pub returns-then-n-cell : goal.returns-then-n-cell
+returns-then-n-cell c = leaf_past c.if-n-cell.true
+
+pub returns-then-out-eq0 : goal.returns-then-out-eq0
+returns-then-out-eq0 c =
+    ran_leaf (carrier_once c.requires.size).l_below c.if-n-cell.false
+    (record { count_is = omega (arith, c.if-out-eq0.true); list_is = refl })
+
+pub returns : goal.returns
+returns c =
+    ran_leaf (carrier_once c.requires.size).l_below c.if-n-cell.false c.write-count.ensures
