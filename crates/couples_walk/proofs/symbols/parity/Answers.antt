@@ -2,11 +2,7 @@
 use native.Mathlib.Nat.{mod-lt}
 use native.Mathlib.Omega.{arith}
 use lib.Bits.{and_mask}
-use Rattle.couples_walk.proofs.symbols.parity.Statement.{statement}
-use Rattle.couples_walk.proofs.symbols.parity.Tie as tie
+use Rattle.couples_walk.proofs.symbols.parity.Goals as goal
 
-returns : tie.Need-returns
+pub returns : goal.returns
 returns c = let x = c.args.x in (and_mask x 1, omega (arith, and_mask x 1, mod-lt x {m = 2} (omega arith)))
-
-pub parity_spec : {M : Type 1} → statement M
-parity_spec = tie.close (tie.spec returns)
