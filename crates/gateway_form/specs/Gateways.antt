@@ -1,9 +1,9 @@
 -- The form of a gateway's store in the request's sentences: 1 to 8 machines, whose entries lie inside the store; each entry of a known kind and direction, its length the
 -- kind's, its branch and places in their ranges; the first share where the header ends, each other where the one before it ends, and the last to the store's
 -- end. A store passes the test of the form exactly if it is so.
-use Rattle.std.specs.Prelude.{ℕ, ◌+◌, ◌-◌, ◌≤◌, ◌<◌, true, ◌&&◌, List, ◌⊎◌, ◌↔◌, ◌≡◌, refl, eqb, leb, length}
+use Rattle.std.specs.Prelude.{ℕ, ◌+◌, ◌≤◌, ◌<◌, true, ◌&&◌, List, ◌⊎◌, ◌↔◌, ◌≡◌, refl, eqb, leb, length}
 use Rattle.std.proofs.Common.{sym, ◌∙◌, arith, eq-eqb, eqb-true, leb-true}
-use Rattle.laws.specs.Gapless.{meet, Gapless, meets_gapless, gapless_meets, before, from_the_first, inside}
+use Rattle.laws.specs.Gapless.{Gapless, meets_gapless, gapless_meets, before, from_the_first, inside}
 use Rattle.laws.specs.Members.{both, every, at_run, every_run, either_is, is_either}
 use Rattle.laws.specs.Run.{run}
 use Rattle.kinds.specs.Kinds.{known, sizes_of, in_range}

@@ -1,7 +1,7 @@
 -- An entry's branch and places lie in their ranges exactly if the branch is below the kind's and the bytes of the places are below their limits.
 use Prim.Native.Nat.{ℕ, zero, suc, ◌+◌, ◌-◌, ◌*◌, ◌/◌, ◌≤◌, ◌<◌}
 use Rattle.std.specs.Prelude.{Bool, true, false, ◌&&◌, List, ◌≡◌, refl, ltb, drop}
-use Rattle.std.proofs.Common.{⊎_elim, sym, ap, ◌∙◌, subst, zero-add, get_or-drop}
+use Rattle.std.proofs.Common.{⊎_elim, sym, ap, ◌∙◌, zero-add, get_or-drop}
 use native.Mathlib.Omega.{arith}
 use Rattle.std.proofs.Math.ListN.{get_or}
 use borrow.Author.Tests.{lt-ltb, ltb-true}

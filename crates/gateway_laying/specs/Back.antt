@@ -1,17 +1,15 @@
 -- A store just laid out is of the form: it has as many machines as kinds were given, and each vessel's entry and share are its own.
-use Rattle.std.specs.Prelude.{ℕ, suc, min, ◌+◌, ◌-◌, ◌*◌, ◌≤◌, ◌<◌, true, ◌≡◌, get_or, take}
+use Rattle.std.specs.Prelude.{ℕ, min, ◌+◌, ◌-◌, ◌*◌, ◌≤◌, ◌<◌, true, ◌≡◌, get_or, take}
 use mathlib.Core.List.{List, [], ◌++◌, append-nil, append_assoc}
-use Rattle.std.proofs.Common.{⊎_elim, ◌∙◌, zero-add, add-zero, arith, length-take-le, take_all}
+use Rattle.std.proofs.Common.{⊎_elim, ◌∙◌, arith, length-take-le, take_all}
 use Rattle.std.proofs.Math.Path.{refl, sym, ap, ap₂}
 use Rattle.std.proofs.Math.ListN.{length, length-append}
-use Rattle.std.proofs.lemmas.List.{get_or-replicate}
 use Rattle.laws.specs.Chained.{chained_part}
 use Rattle.laws.specs.Members.{chained, every, at_each, either_is}
 use Rattle.laws.specs.Parts.{part, part_append}
 use Rattle.laws.specs.Run.{run, take_run, mem_at}
 use Rattle.big_end.specs.Numbers.{number_at, number_bytes}
 use Rattle.big_end.specs.Back.{number_back}
-use Rattle.delay.specs.Machine.{start_stand}
 use Rattle.kinds.specs.declared.Stream.{Stream}
 use Rattle.kinds.specs.Kinds.{known, sizes_of, sound, start_record}
 use Rattle.kinds.specs.Ranges.{known_is, ranges}
@@ -21,9 +19,9 @@ use Rattle.gateway_form.specs.Form.{kind_of, direction_of, offset_of, length_of,
 use Rattle.gateway_form.specs.Form.{machines_in, entry_place, entry_in, offset_in, length_in, share_in}
 use Rattle.gateway_form.specs.Back.{Kept, ranges_kept, stand_length, branch_back, places_back}
 use Rattle.gateway_form.specs.Gateways.{Directed, Entry, Gateway}
-use Rattle.gateway_laying.specs.Laid.{start_of, store_length, laid_entry, laid_share, vessels, laid_out}
+use Rattle.gateway_laying.specs.Laid.{start_of, laid_entry, laid_share, vessels, laid_out}
 use Rattle.gateway_laying.specs.Laying.{entry_length, share_length, entries_length, shares_length, laid_length, vessel_at, vessels_long}
-use Rattle.gateway_laying.specs.Laying.{start_first, start_next, start_low, start_inside, header_inside, kind_at}
+use Rattle.gateway_laying.specs.Laying.{start_first, start_next, start_low, header_inside, kind_at}
 
 -- an entry written is an entry read
 pub record EntryRead (e : List ℕ) (direction offset : ℕ) (s : Stream) : Type 0 where

@@ -1,7 +1,6 @@
 -- What laying out the rows is given and ensures. Rests on the shape and the set-up. These are definitions.
 use Rattle.std.specs.Prelude.{ℕ, ◌≤◌, List, ◌≡◌, length}
 use Rattle.wcdma_shape.specs.declared.Shape.{Shape}
-use Rattle.wcdma_shape.specs.Rectangle.{rows}
 use Rattle.wcdma_shape.specs.Post.{ShapeOf}
 use Rattle.wcdma_setup.specs.Post.{NumbersAre}
 

@@ -1,0 +1,19 @@
+-- `carrier_turned::walk_l` is the walk for L from any cell: 9 by its test, and else what `write_l` wrote.
+use native.Mathlib.Omega.{arith}
+use Rattle.laws.specs.Lanes.{ran_same}
+use Rattle.laws.specs.Leaves.{leaf_past, ran_leaf}
+use Rattle.carrier.specs.Turned.{spatial_once}
+use Rattle.carrier_turned.specs.Turned.{turn_in, within, l_by}
+use Rattle.carrier_turned.proofs.walk_l.Goals as goal
+
+pub returns-then-b-cell : goal.returns-then-b-cell
+returns-then-b-cell c = leaf_past c.if-b-cell.true
+
+pub write_l-count-requires : goal.write_l-count-requires
+write_l-count-requires c =
+    within c.requires c.turn_of-v.ensures (omega (arith, c.if-b-cell.false))
+
+pub returns : goal.returns
+returns c =
+    let p = c.requires in
+    ran_leaf (spatial_once p.whole.size _ _ _ (turn_in p)).l_below (omega (arith, c.if-b-cell.false)) (ran_same (l_by _ c.turn_of-v.ensures) c.write_l-count.ensures)

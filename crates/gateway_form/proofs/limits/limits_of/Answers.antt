@@ -1,0 +1,35 @@
+-- `gateway_form::limits::limits_of`.
+use Rattle.gateway_form.specs.Limits.{limiting_first, limiting_more, limiting_all, limit_fits}
+use Rattle.kinds.specs.Kinds.{sound}
+use native.Mathlib.Omega.{arith}
+use Rattle.gateway_form.proofs.limits.limits_of.Goals as goal
+
+pub overflow_cast-step : goal.overflow_cast-step
+overflow_cast-step c = omega (arith, c.of-z.ensures.short)
+
+pub overflow_sub-rings : goal.overflow_sub-rings
+overflow_sub-rings c = omega (arith, c.of-z.ensures.some)
+
+pub loop-x-init : goal.loop-x-init
+loop-x-init c = limiting_first _
+
+pub overflow_add-limit : goal.overflow_add-limit
+overflow_add-limit c =
+    let z = c.of-z.ensures in
+    let k = sound c.args.kind in
+    omega (arith, limit_fits c.loop-x.invariant k.few (omega (arith, z.branches)) k.ring, z.step)
+
+pub bounds-limits-at : goal.bounds-limits-at
+bounds-limits-at c = omega (arith, c.loop-x.invariant.place, c.of-z.ensures.few)
+
+pub loop-x-preserved : goal.loop-x-preserved
+loop-x-preserved c =
+    let z = c.of-z.ensures in
+    let k = sound c.args.kind in
+    limiting_more c.loop-x.invariant k.few (omega (arith, z.branches)) (omega (arith, z.step))
+
+pub returns : goal.returns
+returns c =
+    let z = c.of-z.ensures in
+    let k = sound c.args.kind in
+    limiting_all c.loop-x.invariant k.few (omega (arith, z.branches)) k.some_branches

@@ -1,0 +1,41 @@
+-- `quadratic_walk::place_of` is M: the walk stops at the address. The measure is what is left of the block.
+use mathlib.Core.Path.{sym, ◌∙◌}
+use native.Mathlib.Omega.{arith}
+use Rattle.laws.specs.Seek.{seek_first, seek_here, seek_next, seek_end}
+use Rattle.quadratic.specs.Formula.{quadratic_m}
+use Rattle.quadratic_walk.specs.Spot.{ready_in}
+use Rattle.quadratic_walk.proofs.place_of.Goals as goal
+
+pub twice_of-twice-requires : goal.twice_of-twice-requires
+twice_of-twice-requires c = (c.requires.second_in, c.requires.small)
+
+pub new-at-requires : goal.new-at-requires
+new-at-requires c = record { whole = c.requires; cell_in = omega arith }
+
+pub loop-t-init : goal.loop-t-init
+loop-t-init c = seek_first (record { whole = c.requires; twice_is = c.twice_of-twice.ensures }) c.new-at.ensures
+
+pub returns-then-at-a : goal.returns-then-at-a
+unfolding quadratic_m
+returns-then-at-a c =
+    let g = c.loop-t.invariant in
+    seek_here g c.loop-t-test.true (sym g.state.value_is ∙ c.if-at-a.true)
+
+pub next-at-requires : goal.next-at-requires
+next-at-requires c = let g = c.loop-t.invariant in ready_in g.kept g.state
+
+pub overflow_add-t : goal.overflow_add-t
+overflow_add-t c = omega (arith, c.loop-t-test.true, c.loop-t.invariant.kept.whole.small)
+
+pub loop-t-smaller : goal.loop-t-smaller
+loop-t-smaller c = omega (arith, c.loop-t-test.true)
+
+pub loop-t-preserved : goal.loop-t-preserved
+loop-t-preserved c =
+    let g = c.loop-t.invariant in
+    seek_next g c.loop-t-test.true (λ e. c.if-at-a.false (g.state.value_is ∙ e))
+    (c.next-at.ensures.one_on _ _ _ g.kept.twice_is g.state)
+
+pub returns : goal.returns
+unfolding quadratic_m
+returns c = seek_end c.loop-t.invariant c.loop-t-test.false

@@ -1,0 +1,14 @@
+-- `quadratic_walk::walk` is the walk for L from any cell: 9 by its test, and else what `write` wrote.
+use Rattle.laws.specs.Leaves.{leaf_past, ran_leaf}
+use Rattle.quadratic.specs.Law.{address_below}
+use Rattle.quadratic_walk.proofs.walk.Goals as goal
+
+pub returns-then-cell-k : goal.returns-then-cell-k
+returns-then-cell-k c = leaf_past c.if-cell-k.true
+
+pub write-count-requires : goal.write-count-requires
+write-count-requires c = record { whole = c.requires; cell_in = c.if-cell-k.false }
+
+pub returns : goal.returns
+returns c =
+    ran_leaf (λ x h. address_below _ _ _ c.requires.size x) c.if-cell-k.false c.write-count.ensures

@@ -1,0 +1,76 @@
+-- `powers` fills the first half of S step by step, and has the second half from it. The invariant: the powers below x stand in their places,
+-- and last is the power x.
+use Prim.Native.Nat.{◌-◌, ℕ}
+use borrow.Author.Count.{below_none}
+use lib.ListN.{length-set}
+use mathlib.Core.Path.{◌∙◌, ap, refl}
+use native.Mathlib.Nat.{mod-lt}
+use native.Mathlib.Omega.{arith}
+use Rattle.laws.specs.Entries.{fill_more}
+use Rattle.wcdma_powers.proofs.Halves.{both_halves}
+use Rattle.wcdma_powers.proofs.Steps.{power_next}
+use Rattle.wcdma_shape.specs.Powers.{power}
+use Rattle.wcdma_shape.specs.Roots.{power_lt, power_pos}
+use Rattle.wcdma_powers.proofs.powers.Goals as goal
+
+pub loop-x-init : goal.loop-x-init
+unfolding power
+loop-x-init c = (omega arith, c.requires.long, omega (arith, c.requires.root.big), refl, below_none _)
+
+pub overflow_sub-s : goal.overflow_sub-s
+overflow_sub-s c = let l = c.loop-x in omega (arith, l.invariant.3, power_pos c.requires.root l.x, c.requires.least)
+
+pub overflow_cast-s : goal.overflow_cast-s
+overflow_cast-s c = let l = c.loop-x in omega (arith, l.invariant.2, c.requires.small)
+
+pub offset_bounds-s-x : goal.offset_bounds-s-x
+offset_bounds-s-x c = omega (arith, c.loop-x-test.true, c.requires.small)
+
+pub bounds-s-x : goal.bounds-s-x
+bounds-s-x c = omega (arith, c.loop-x-test.true, c.requires.small)
+
+pub next_power-last-requires : goal.next_power-last-requires
+next_power-last-requires c = let z = c.requires in record { big = z.root.big; small = z.small; six = z.root.six; below = c.loop-x.invariant.2 }
+
+pub overflow_add-x : goal.overflow_add-x
+overflow_add-x c = omega (arith, c.loop-x-test.true, c.requires.small)
+
+pub loop-x-preserved : goal.loop-x-preserved
+loop-x-preserved c =
+    let l = c.loop-x in
+    let e = c.next_power-last.ensures in
+    let a = c.args in
+    let z = c.requires in (
+      omega (arith, c.loop-x-test.true),
+      simp length-set l.invariant.1,
+      rw e (mod-lt _ (omega (arith, z.root.big))),
+      e ∙ power_next _ _ l.x l.last l.invariant.3,
+      fill_more (λ y. power a.p a.v y - a.less) l.s l.x (l.last - a.less)
+          (omega (arith, l.invariant.1, c.loop-x-test.true, z.small)) (ap (λ (y : ℕ). y - a.less) l.invariant.3) l.invariant.4,
+    )
+
+pub overflow_sub-p : goal.overflow_sub-p
+overflow_sub-p c = let z = c.requires in omega (arith, z.least, z.root.big)
+
+pub overflow_sub-p-2 : goal.overflow_sub-p-2
+overflow_sub-p-2 c = let z = c.requires in omega (arith, z.least, z.root.big)
+
+pub overflow_cast-p : goal.overflow_cast-p
+overflow_cast-p c = let z = c.requires in omega (arith, z.small)
+
+pub second_half-requires : goal.second_half-requires
+second_half-requires c =
+    let z = c.requires in
+    let l = c.loop-x in
+    record {
+      room = omega (arith, z.small);
+      small = omega (arith, z.small);
+      low = λ x h.
+          omega (arith, l.invariant.4 x (omega (arith, c.loop-x-test.false)), power_lt z.root x, z.least);
+      long = l.invariant.1;
+    }
+
+pub returns : goal.returns
+returns c =
+    let l = c.loop-x in
+    both_halves c.requires (λ x h. l.invariant.4 x (omega (arith, c.loop-x-test.false))) c.second_half.ensures
