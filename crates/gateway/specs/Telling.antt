@@ -1,11 +1,9 @@
 -- What the code answers of a vessel's share and of laying out, by the first line that applies.
-use Rattle.std.specs.Prelude.{ℕ, ◌+◌, ◌-◌, ◌≤◌, ◌<◌, Bool, true, false, not, List, [], ◌∷◌, ◌≡◌, refl, ltb, length, take, drop}
+use Rattle.std.specs.Prelude.{ℕ, ◌+◌, ◌-◌, ◌≤◌, Bool, true, false, not, List, [], ◌∷◌, ◌≡◌, refl, ltb, length, take, drop}
 use Rattle.std.proofs.Common.{sym, ap, ap₂, ◌∙◌, arith, ltb-true}
 use Rattle.std.proofs.Math.Nat.{add-sub_cancel_left}
-use Rattle.std.proofs.lemmas.Bool.{not-true, not-false}
-use Rattle.laws.specs.Members.{every}
+use Rattle.std.proofs.lemmas.Bool.{not-false}
 use Rattle.laws.specs.Outcome.{done, refused, line, clear, stopped, first, judged, done_clear, buffer_new, answer_keeps}
-use Rattle.kinds.specs.Kinds.{known}
 use Rattle.gateway_form.specs.Form.{machines_in, offset_in, length_in, share_in, formed}
 use Rattle.gateway_form.specs.Gateways.{formed_exactly, share_inside}
 use Rattle.gateway_laying.specs.Laid.{laid_out}

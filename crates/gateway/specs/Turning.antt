@@ -1,8 +1,8 @@
 -- A vessel of a store of the form: where its entry and its share lie, that its machine is ready, and what turning it leaves.
-use Rattle.std.specs.Prelude.{ℕ, ◌+◌, ◌-◌, ◌*◌, ◌≤◌, ◌<◌, true, ◌≡◌, take, drop}
+use Rattle.std.specs.Prelude.{ℕ, ◌+◌, ◌*◌, ◌<◌, ◌≡◌, take, drop}
 use mathlib.Core.List.{List, ◌++◌}
 use Rattle.std.proofs.Math.Path.{refl, ap, ap₂}
-use Rattle.std.proofs.Common.{sym, ◌∙◌, arith}
+use Rattle.std.proofs.Common.{◌∙◌}
 use Rattle.std.proofs.Math.ListN.{length}
 use Rattle.std.proofs.Math.Seq.{sets}
 use Rattle.laws.specs.declared.Way.{Way}
@@ -15,7 +15,7 @@ use Rattle.delay.specs.Cuts.{length_store}
 use Rattle.delay.specs.Machine.{slot_of, next_of}
 use Rattle.kinds.specs.Kinds.{machine_of, stand_of}
 use Rattle.kinds.specs.Ranges.{is_known, range_in}
-use Rattle.streams.specs.Fed.{fed_output, fed_store, fed_record}
+use Rattle.streams.specs.Fed.{fed_store, fed_record}
 use Rattle.streams.specs.Answers.{Call, call, lines_of}
 use Rattle.streams.specs.Answers as machines
 use Rattle.streams.specs.Condition3.{one_call}
