@@ -7,7 +7,7 @@ use Rattle.laws.specs.Digits.{high_below}
 use Rattle.laws.specs.Sized.{Sized, groups_pos, row_length, row_whole, d_le}
 use Rattle.carrier_columns.specs.declared.ColumnSpot.{ColumnSpot}
 use Rattle.carrier.specs.Formula.{carrier_m}
-use Rattle.carrier.specs.Steps.{m_digits}
+use Rattle.carrier.proofs.Steps.{m_digits}
 
 -- the numbers at a row of column col: low is the column's place in its group, base the address without the turn, turn the turned place
 pub record ColumnAt (c n s col row : ℕ) (at : ColumnSpot) : Type 0 where

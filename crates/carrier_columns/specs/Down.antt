@@ -7,7 +7,7 @@ use Rattle.laws.specs.Sized.{Sized, row_whole}
 use Rattle.laws.specs.Lanes.{Going, going_first, going_next, Lanewise, Part}
 use Rattle.carrier_columns.specs.declared.ColumnSpot.{ColumnSpot}
 use Rattle.carrier.specs.Formula.{carrier_m}
-use Rattle.carrier.specs.Once.{carrier_once}
+use Rattle.carrier.proofs.Once.{carrier_once}
 use Rattle.carrier.specs.Block.{Block}
 use Rattle.carrier_columns.specs.Column.{ColumnAt, ColumnIn, ColumnStep, column_cell, column_address}
 

@@ -7,7 +7,7 @@ use Rattle.laws.specs.Sized.{Sized, row_pos, row_whole, group_le, s_le_row}
 use Rattle.laws.specs.Lanes.{Going, going_first, going_next, Lanewise, Part}
 use Rattle.carrier_rows.specs.declared.RowSpot.{RowSpot}
 use Rattle.carrier.specs.Formula.{carrier_l}
-use Rattle.carrier.specs.Once.{carrier_once}
+use Rattle.carrier.proofs.Once.{carrier_once}
 use Rattle.carrier.specs.Block.{Block}
 use Rattle.carrier_rows.specs.Row.{RowAt, RowIn, RowStep, row_cell, row_address}
 

@@ -7,7 +7,7 @@ use Rattle.laws.specs.Digits.{high_below}
 use Rattle.laws.specs.Sized.{Sized, groups_pos, row_length, row_whole}
 use Rattle.carrier_rows.specs.declared.RowSpot.{RowSpot}
 use Rattle.carrier.specs.Formula.{carrier_l}
-use Rattle.carrier.specs.Steps.{l_digits}
+use Rattle.carrier.proofs.Steps.{l_digits}
 
 -- the numbers at column col of a row: low is the column's place in its group, base the address without the turn, lift the turn's part
 pub record RowAt (d s row col : ℕ) (at : RowSpot) : Type 0 where

@@ -10,7 +10,7 @@ use Rattle.laws.specs.Fill.{Filled}
 use Rattle.laws.specs.Lanes.{Ran, ran_full}
 use Rattle.laws.specs.Loop.{by_run}
 use Rattle.carrier.specs.Formula.{carrier_l, carrier_m}
-use Rattle.carrier.specs.Once.{carrier_once}
+use Rattle.carrier.proofs.Once.{carrier_once}
 use Rattle.carrier_turned.specs.Turned.{turned_l, turned_m, Within, TakenOff, off, ahead, behind}
 
 module _ (d n s v : ℕ) (h : v < n) where

@@ -9,8 +9,8 @@ use Rattle.laws.specs.Walk.{Rule}
 use Rattle.carrier.specs.Block.{Block, Whole, block}
 use Rattle.carrier.specs.Formula.{carrier_l, carrier_m}
 use Rattle.carrier.specs.Third.{turn, third_step, third_back, spatial_l, spatial_m, spatial_rule}
-use Rattle.carrier.specs.Once.{carrier_once}
-use Rattle.carrier.specs.Turned.{turn_below}
+use Rattle.carrier.proofs.Once.{carrier_once}
+use Rattle.carrier.proofs.Turned.{turn_below}
 use Rattle.carrier_turned.specs.declared.Stream.{Stream}
 
 -- L and M of the two steps, turned by v

@@ -6,7 +6,8 @@ use Rattle.std.proofs.Common.{◌∙◌, mul-le-mul, le_refl, le_trans, arith, l
 use Rattle.std.proofs.Math.Nat.{min-le_left, min-le_right, min-eq_left, min-eq_right}
 use Rattle.std.proofs.Math.Decide.{dec_lt}
 use Rattle.delay.specs.Machine.{spread_of}
-use Rattle.delay.specs.Burst.{distance, spread}
+use Rattle.delay.specs.Burst.{distance}
+use Rattle.delay.proofs.Burst.{spread}
 use Rattle.kinds.specs.declared.sizes.Sizes.{Sizes}
 use Rattle.kinds.specs.Kinds.{sizes_of, sound, Sized, place_in}
 

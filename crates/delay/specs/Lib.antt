@@ -4,14 +4,11 @@ pub mod Cuts
 pub mod Bytes
 pub mod Standing
 pub mod Delay
-pub mod Round
 pub mod Burst
 pub mod Numbered
 pub mod Lane
-pub mod Started
 pub mod Past
 pub mod Laning
 pub mod Turning
 pub mod Loops
-pub mod Served
 pub mod Leading

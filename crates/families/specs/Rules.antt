@@ -13,13 +13,13 @@ use Rattle.sets.specs.Set.{family_of, rows_of, rotation_of, group_of, f1, f2, co
 use Rattle.sets.specs.Verdict.{verdict_of}
 use Rattle.sets.specs.Carried.{carrier_size, spatial_size, stream_in, turbo_size, quadratic_size, coupled_size}
 use Rattle.carrier.specs.Formula.{carrier_l, carrier_m, carrier_rule}
-use Rattle.carrier.specs.Once.{carrier_lawful}
+use Rattle.carrier.proofs.Once.{carrier_lawful}
 use Rattle.carrier.specs.Third.{turn, spatial_l, spatial_m, spatial_rule}
-use Rattle.carrier.specs.Turned.{turn_below, spatial_lawful, first_l, first_m}
+use Rattle.carrier.proofs.Turned.{turn_below, spatial_lawful, first_l, first_m}
 use Rattle.wcdma.specs.Turbo.{turbo_rule}
-use Rattle.wcdma.specs.Law.{turbo_lawful}
+use Rattle.wcdma.proofs.Law.{turbo_lawful}
 use Rattle.quadratic.specs.Formula.{quadratic_rule}
-use Rattle.quadratic.specs.Law.{quadratic_lawful}
+use Rattle.quadratic.proofs.Law.{quadratic_lawful}
 use Rattle.couples.specs.Formula.{coupled_rule}
 use Rattle.couples.specs.Law.{coupled_lawful}
 

@@ -1,4 +1,3 @@
 pub mod Entry
 pub mod Profiles
 pub mod Entered
-pub mod Counted

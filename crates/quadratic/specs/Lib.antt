@@ -1,5 +1,2 @@
 pub mod Formula
-pub mod Enough
-pub mod Needed
-pub mod Law
 pub mod Test

@@ -15,7 +15,7 @@ use Rattle.profiles.specs.declared.Family.{Family}
 use Rattle.profiles.specs.declared.Family.TheVariants.{Carrier, Spatial, Turbo, Quadratic, Coupled}
 use Rattle.sizes.specs.Tests.{listed_sizes}
 use Rattle.quadratic.specs.Formula.{quadratic_l}
-use Rattle.quadratic.specs.Law as squares
+use Rattle.quadratic.proofs.Law as squares
 use Rattle.couples.specs.Formula.{couple_l}
 use Rattle.couples.specs.Law as pairs
 use Rattle.couples.specs.Test.{Below, NotBelow, not_below, all_below_lem, one_not_below, Numbered}

@@ -14,7 +14,7 @@ use Rattle.profiles.specs.declared.Bits.TheVariants.{One}
 use Rattle.profiles.specs.Entry.{row}
 use Rattle.profiles.specs.Profiles.{profiles, last_profile, entry_by, numbers_by, admitted_by, bits_of}
 use Rattle.profiles.specs.Entered.{in_profiles, own_number}
-use Rattle.profiles.specs.Counted.{HasEach, entry_counted}
+use Rattle.profiles.proofs.Counted.{HasEach, entry_counted}
 use Rattle.sizes.specs.Size.{size, sizes_of, in_rows}
 use Rattle.sizes.specs.Tests.{listed_sizes, bits_listed, size_listed}
 use Rattle.sizes.specs.Admits.{listed_passing}

@@ -8,7 +8,7 @@ use mathlib.Core.List.{Memᴰ}
 use Rattle.laws.specs.Members.{both, at_each, by_member, in_chained, of_chained}
 use Rattle.profiles.specs.Entry.{some, some_of, Entry}
 use Rattle.profiles.specs.Profiles.{profiles, last_profile, entry_by, bits_in, size_by}
-use Rattle.profiles.specs.Counted.{HasEach, Counted, entry_counted}
+use Rattle.profiles.proofs.Counted.{HasEach, Counted, entry_counted}
 use Rattle.profiles.specs.Entered.{in_profiles, own_number}
 use Rattle.sizes.specs.declared.Size.{Size}
 use Rattle.sizes.specs.Size.{size, sizes_of, in_rows}

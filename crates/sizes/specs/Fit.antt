@@ -9,7 +9,7 @@ use Rattle.laws.specs.Members.{both, every, at_each}
 use Rattle.profiles.specs.declared.Family.{Family}
 use Rattle.profiles.specs.declared.Family.TheVariants.{Carrier, Spatial, Turbo, Quadratic, Coupled}
 use Rattle.profiles.specs.Profiles.{family_by, numbers_by, group_by, entry_by, turbo_sizes, lte_sizes, couple_sizes, carriers, turbos, spatials, quadratics, coupleds}
-use Rattle.profiles.specs.Counted.{turbo_range}
+use Rattle.profiles.proofs.Counted.{turbo_range}
 use Rattle.sizes.specs.declared.Size.{Size}
 use Rattle.sizes.specs.Size.{size, all_sizes, either_all}
 use Rattle.sizes.specs.Tests.{listed_sizes}

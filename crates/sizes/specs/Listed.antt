@@ -17,7 +17,7 @@ use Rattle.profiles.specs.Entry.{Entry}
 use Rattle.profiles.specs.Profiles.{turbo_sizes, lte_sizes, couple_sizes, turbo, carriers, spatials, quadratics, coupleds, profiles, entry_by, admitted_by}
 use Rattle.profiles.specs.Profiles.{group_by, bits_of, bits_in, size_in, size_by}
 use Rattle.profiles.specs.Entered.{in_profiles, every_profile}
-use Rattle.profiles.specs.Counted.{turbo_range}
+use Rattle.profiles.proofs.Counted.{turbo_range}
 use Rattle.sizes.specs.declared.Size.{Size}
 use Rattle.sizes.specs.Size.{size, sizes_of}
 use Rattle.sizes.specs.Tests.{profile_listed, bits_listed, size_listed}

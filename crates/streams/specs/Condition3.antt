@@ -11,9 +11,9 @@ use Rattle.laws.specs.declared.Way.TheVariants.{Interleaver, Deinterleaver}
 use Rattle.delay.specs.Machine.{ring_of, offset, slot_of, next_of, start_stand, run_output, run_store, run_record, late}
 use Rattle.delay.specs.Cuts.{output_cut, store_cut, record_cut, length_output}
 use Rattle.delay.specs.Bytes.{ring_at, slot_at, delay_at}
-use Rattle.delay.specs.Standing.{output_number, within_start}
+use Rattle.delay.proofs.Standing.{output_number, within_start}
 use Rattle.delay.specs.Delay.{fresh}
-use Rattle.delay.specs.Round.{round, late_list}
+use Rattle.delay.proofs.Round.{round, late_list}
 use Rattle.kinds.specs.declared.Stream.{Stream}
 use Rattle.kinds.specs.Kinds.{sizes_of, sound, machine_of, stand_of, start_record}
 use Rattle.streams.specs.Fed.{start_store, fed_output, fed_store, fed_record}

@@ -7,10 +7,11 @@ use Rattle.std.proofs.Math.Nat.{add-mod-mod}
 use Rattle.laws.specs.declared.Way.{Way}
 use Rattle.delay.specs.Machine.{place_of, next_of, run_record}
 use Rattle.delay.specs.Slots.{offset_end}
-use Rattle.delay.specs.Standing.{Within, stands_after}
+use Rattle.delay.specs.Standing.{Within}
+use Rattle.delay.proofs.Standing.{stands_after}
 use Rattle.delay.specs.Lane.{Leads, Ring, Left, count_of, Turned, Passed}
 use Rattle.delay.specs.Loops.{left_all}
-use Rattle.delay.specs.Served.{Served, served_none, row_now, served_more, served_all}
+use Rattle.delay.proofs.Served.{Served, served_none, row_now, served_more, served_all}
 use Rattle.kinds.specs.declared.Stream.{Stream}
 use Rattle.kinds.specs.declared.sizes.Sizes.{Sizes}
 use Rattle.kinds.specs.Kinds.{sizes_of, sound, Sized, machine_of, stand_of}

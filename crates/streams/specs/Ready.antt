@@ -10,8 +10,9 @@ use Rattle.laws.specs.declared.Way.TheVariants.{Interleaver}
 use Rattle.delay.specs.Machine.{branch_of, slot_of, next_of, start_stand, run_output, run_store, run_record}
 use Rattle.delay.specs.Cuts.{length_store}
 use Rattle.delay.specs.Lane.{count_of}
-use Rattle.delay.specs.Started.{branch_since, place_since}
-use Rattle.delay.specs.Standing.{Within, stands_after, within_run, within_start}
+use Rattle.delay.proofs.Started.{branch_since, place_since}
+use Rattle.delay.specs.Standing.{Within}
+use Rattle.delay.proofs.Standing.{stands_after, within_run, within_start}
 use Rattle.kinds.specs.declared.Stream.{Stream}
 use Rattle.kinds.specs.Kinds.{known, sizes_of, sound, machine_of, stand_of, in_range, start_record}
 use Rattle.kinds.specs.Ranges.{ranges, range_in, within}

@@ -20,7 +20,7 @@ use Rattle.sets.specs.Verdict.{verdict_of}
 use Rattle.sets.specs.Listed as admitted
 use Rattle.sets.specs.Numbered.{carrier_profile, five_turbo, spatial_profile, ht20_numbers, ht40_numbers}
 use Rattle.carrier.specs.Formula.{carrier_l, carrier_m}
-use Rattle.carrier.specs.Once.{carrier_once}
+use Rattle.carrier.proofs.Once.{carrier_once}
 use Rattle.carrier.specs.Third.{turn, spatial_l, spatial_m}
 use Rattle.wcdma.specs.Turbo.{turbo_l, turbo_m}
 use Rattle.walks.specs.declared.Walk.{Walk}

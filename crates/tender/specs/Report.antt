@@ -9,7 +9,7 @@ use Rattle.sizes.specs.Tests.{size_listed}
 use Rattle.sets.specs.Verdict.{refusal, refusal_number}
 use Rattle.wcdma_shape.specs.Rectangle.{rows, cols, cells}
 use Rattle.wcdma.specs.Turbo.{pad_cells}
-use Rattle.wcdma.specs.Pads.{cells_are}
+use Rattle.wcdma.proofs.Pads.{cells_are}
 use Rattle.wcdma_report.specs.Sum.{sum}
 use Rattle.wcdma_report.specs.Report.{is_size, turbo_set, figures, totals, figures_lines, totals_lines, figures_of, totals_of}
 use Rattle.wcdma_report.specs.Refusals.{figures_sentences, totals_sentences}

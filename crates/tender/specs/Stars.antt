@@ -18,7 +18,7 @@ use Rattle.wcdma_shape.specs.Powers.{power, first_one, generates, root_from, roo
 use Rattle.wcdma_setup.specs.Numbers.{no_divisor, is_prime, passes, next_in, next_q, q_of}
 use Rattle.wcdma_shape.specs.Orders.{row_orders, which_order, order_of, row_at}
 use Rattle.wcdma.specs.Turbo.{entry, full, column, origin, address, addresses, turbo_m, pad_cells}
-use Rattle.wcdma.specs.Pads.{cells_are}
+use Rattle.wcdma.proofs.Pads.{cells_are}
 use Rattle.quadratic.specs.Formula.{quadratic_l, quadratic_m}
 use Rattle.couples.specs.Formula.{offset, couple_l, couple_m}
 use Rattle.lte.specs.Factors.{two, lte_with}

@@ -9,7 +9,7 @@ use Rattle.laws.specs.declared.Way.{Way}
 use Rattle.laws.specs.declared.Way.TheVariants.{Interleaver, Deinterleaver}
 use Rattle.delay.specs.Machine.{Slot, ring_of, slot_in, start_stand, run_output, run_store, late}
 use Rattle.delay.specs.Bytes.{ring_at, row_at, slot_at}
-use Rattle.delay.specs.Standing.{output_number, store_number}
+use Rattle.delay.proofs.Standing.{output_number, store_number}
 use Rattle.delay.specs.Delay.{late_early, late_from}
 use Rattle.kinds.specs.declared.Stream.{Stream}
 use Rattle.kinds.specs.Kinds.{sizes_of, machine_of, stand_of, start_record}

@@ -11,13 +11,13 @@ use Rattle.wcdma_shape.specs.Shape.{prime_listed}
 use Rattle.wcdma_shape.specs.Orders.{row_at}
 use Rattle.wcdma_setup.specs.Numbers.{q_of}
 use Rattle.wcdma_setup.specs.Primes.{Prime, Next, primes_are}
-use Rattle.wcdma_setup.specs.Found as numbers
+use Rattle.wcdma_setup.proofs.Found as numbers
 use Rattle.wcdma.specs.Turbo.{origin, address, addresses, turbo_l, turbo_m, pad_cells}
 use Rattle.wcdma.specs.Full as exchange
-use Rattle.wcdma.specs.Law as law
-use Rattle.wcdma.specs.Touched.{full_sizes}
-use Rattle.wcdma.specs.Touched as touched
-use Rattle.wcdma.specs.Pads as pads
+use Rattle.wcdma.proofs.Law as law
+use Rattle.wcdma.proofs.Touched.{full_sizes}
+use Rattle.wcdma.proofs.Touched as touched
+use Rattle.wcdma.proofs.Pads as pads
 
 module _ (k : ℕ) (low : 40 ≤ k) (high : k ≤ 5114) where
   -- L and M undo each other below K

@@ -2,8 +2,4 @@ pub mod Turbo
 pub mod Full
 pub mod Row
 pub mod Laid
-pub mod Law
-pub mod Touched
-pub mod Pads
-pub mod Walks
 pub mod Wrong

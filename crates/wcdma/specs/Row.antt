@@ -11,7 +11,7 @@ use borrow.Author.Tests.{ltb-true, ltb-false, eqb-true, eqb-false, eq-eqb, ne_eq
 use Rattle.laws.specs.Units.{undo_inj}
 use Rattle.wcdma_shape.specs.Powers.{power}
 use Rattle.wcdma_shape.specs.Roots.{Root, power_lt, power_not_zero, power_inj}
-use Rattle.wcdma_setup.specs.Found.{Unitary}
+use Rattle.wcdma_setup.proofs.Found.{Unitary}
 use Rattle.wcdma.specs.Turbo.{entry}
 
 module _ (p v : ℕ) (root : Root p v) (q : ℕ) (unit : Unitary (p - 1) q) where

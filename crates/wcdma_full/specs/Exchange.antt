@@ -20,8 +20,8 @@ use Rattle.wcdma_shape.specs.Shape.{rows_pos}
 use Rattle.wcdma.specs.Turbo.{full, address, turbo_rule}
 use Rattle.wcdma.specs.Laid.{plain, rule_by, plain_rule}
 use Rattle.wcdma.specs.Full.{full_cells, last_column}
-use Rattle.wcdma.specs.Touched.{untouched, at_first, at_last, elsewhere}
-use Rattle.wcdma.specs.Law.{address_lt, plain_lt}
+use Rattle.wcdma.proofs.Touched.{untouched, at_first, at_last, elsewhere}
+use Rattle.wcdma.proofs.Law.{address_lt, plain_lt}
 
 -- what it makes of a slice that a walk from a cell on filled: in a full rectangle K - 1 stands at cell 0, and K - p at the first cell of column p
 unfoldable pub exchange_in : ℕ → ℕ → List ℕ → List ℕ

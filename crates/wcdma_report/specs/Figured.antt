@@ -5,7 +5,7 @@ use Rattle.std.proofs.Common.{arith}
 use Rattle.wcdma_shape.specs.Rectangle.{Size, rows, cols, cells}
 use Rattle.wcdma_shape.specs.Shape.{rows_le, cols_high, prime_small, product_small, fits}
 use Rattle.wcdma.specs.Turbo.{pad_cells}
-use Rattle.wcdma.specs.Pads.{cells_are}
+use Rattle.wcdma.proofs.Pads.{cells_are}
 use Rattle.wcdma_report.specs.Report.{figures}
 
 module _ {k r c : ℕ} (s : Size k) (er : r ≡ rows k) (ec : c ≡ cols k) where

@@ -4,7 +4,7 @@ use Rattle.std.proofs.Common.{sym, add-one, arith}
 use Rattle.wcdma_shape.specs.Rectangle.{Size, cells}
 use Rattle.wcdma_shape.specs.Shape.{cells_le}
 use Rattle.wcdma.specs.Turbo.{pad_cells}
-use Rattle.wcdma.specs.Pads.{cells_are}
+use Rattle.wcdma.proofs.Pads.{cells_are}
 use Rattle.wcdma_report.specs.Sum.{sum, sum_none, sum_more, sum_le}
 use Rattle.wcdma_report.specs.Report.{Between, totals}
 

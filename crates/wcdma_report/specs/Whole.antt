@@ -4,7 +4,7 @@ use Rattle.std.specs.Prelude.{◌+◌, ◌≡◌, refl}
 use Rattle.std.proofs.Common.{arith}
 use Rattle.wcdma_shape.specs.Rectangle.{rows, primes, first_prime, prime, cols_of, cols, cells}
 use Rattle.wcdma.specs.Turbo.{pad_cells}
-use Rattle.wcdma.specs.Pads.{cells_are}
+use Rattle.wcdma.proofs.Pads.{cells_are}
 use Rattle.wcdma_report.specs.Sum.{sum, sum_adds}
 use Rattle.wcdma_report.specs.Report.{totals}
 

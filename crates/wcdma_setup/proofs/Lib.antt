@@ -1,2 +1,3 @@
-pub mod Steps
+pub mod Found
 pub mod Search
+pub mod Steps

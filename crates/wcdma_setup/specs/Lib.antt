@@ -1,4 +1,3 @@
 pub mod Numbers
 pub mod Primes
-pub mod Found
 pub mod Post

@@ -20,8 +20,8 @@ use Rattle.wcdma_shape.specs.Roots.{Root, prime_root}
 use Rattle.wcdma_shape.specs.Halves.{second_half}
 use Rattle.wcdma_powers.specs.Post.{short_by}
 use Rattle.wcdma.specs.Turbo.{addresses, turbo_rule}
-use Rattle.wcdma.specs.Law.{as_many}
-use Rattle.wcdma.specs.Walks.{walk_whole}
+use Rattle.wcdma.proofs.Law.{as_many}
+use Rattle.wcdma.proofs.Walks.{walk_whole}
 use Rattle.wcdma.specs.Laid.{Rows, Exponents, plain_rule}
 use Rattle.wcdma_cells.specs.Post.{FillIn, WentOf}
 use Rattle.wcdma_full.specs.Exchange.{exchange_in, alike}

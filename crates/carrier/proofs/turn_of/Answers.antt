@@ -4,7 +4,7 @@ use mathlib.Core.Path.{sym}
 use native.Mathlib.Nat.{mul_assoc, mul-le-mul_right}
 use native.Mathlib.Omega.{arith}
 use Rattle.carrier.specs.Third.{turn}
-use Rattle.carrier.specs.Turned.{three_at_most}
+use Rattle.carrier.proofs.Turned.{three_at_most}
 use Rattle.carrier.proofs.turn_of.Goals as goal
 
 pub overflow_mul-result-4 : goal.overflow_mul-result-4

@@ -1,6 +1,6 @@
 -- `carrier_columns::walk` is the walk for M from any cell: 9 by its test, and else what `write` wrote.
 use Rattle.laws.specs.Leaves.{leaf_past, ran_leaf}
-use Rattle.carrier.specs.Once.{carrier_once}
+use Rattle.carrier.proofs.Once.{carrier_once}
 use Rattle.carrier_columns.proofs.walk.Goals as goal
 
 pub returns-then-n-cell : goal.returns-then-n-cell

@@ -2,7 +2,7 @@
 use mathlib.Core.Path.{refl}
 use native.Mathlib.Omega.{arith}
 use Rattle.laws.specs.Leaves.{leaf_past, ran_leaf}
-use Rattle.carrier.specs.Once.{carrier_once}
+use Rattle.carrier.proofs.Once.{carrier_once}
 use Rattle.carrier_rows.proofs.walk.Goals as goal
 
 pub returns-then-n-cell : goal.returns-then-n-cell

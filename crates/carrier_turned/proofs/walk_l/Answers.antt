@@ -2,7 +2,7 @@
 use native.Mathlib.Omega.{arith}
 use Rattle.laws.specs.Lanes.{ran_same}
 use Rattle.laws.specs.Leaves.{leaf_past, ran_leaf}
-use Rattle.carrier.specs.Turned.{spatial_once}
+use Rattle.carrier.proofs.Turned.{spatial_once}
 use Rattle.carrier_turned.specs.Turned.{turn_in, within, l_by}
 use Rattle.carrier_turned.proofs.walk_l.Goals as goal
 

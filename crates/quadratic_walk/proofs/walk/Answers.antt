@@ -1,6 +1,6 @@
 -- `quadratic_walk::walk` is the walk for L from any cell: 9 by its test, and else what `write` wrote.
 use Rattle.laws.specs.Leaves.{leaf_past, ran_leaf}
-use Rattle.quadratic.specs.Law.{address_below}
+use Rattle.quadratic.proofs.Law.{address_below}
 use Rattle.quadratic_walk.proofs.walk.Goals as goal
 
 pub returns-then-cell-k : goal.returns-then-cell-k

@@ -7,7 +7,7 @@ use Rattle.wcdma_shape.specs.Rectangle.{rows}
 use Rattle.wcdma_shape.specs.Shape.{cells_le}
 use Rattle.wcdma_cells.proofs.Cell.{address_is, exponent_in, cell_inside, exponent_small, goes_put, goes_skip, prime_pos, raised_is, row_small}
 use Rattle.wcdma_cells.proofs.Place.{exponents_down}
-use Rattle.wcdma.specs.Law.{plain_lt}
+use Rattle.wcdma.proofs.Law.{plain_lt}
 use Rattle.wcdma.specs.Laid.{Exponents, plain}
 use Rattle.wcdma_cells.proofs.one_cell.Goals as goal
 

@@ -11,7 +11,7 @@ use Rattle.wcdma_shape.specs.Orders.{row_at}
 use Rattle.wcdma_shape.specs.Rectangle.{cols, prime, rows}
 use Rattle.wcdma_shape.specs.Shape.{cols_high, prime_big, prime_small, product_small, rows_le}
 use Rattle.wcdma_rows.proofs.Laid.{fall_is, start_is}
-use Rattle.wcdma.specs.Law.{row_lt}
+use Rattle.wcdma.proofs.Law.{row_lt}
 use Rattle.wcdma.specs.Laid.{next_col}
 use Rattle.wcdma_rows.specs.Post.{LayIn}
 use Rattle.wcdma_rows.proofs.lay_out.Goals as goal

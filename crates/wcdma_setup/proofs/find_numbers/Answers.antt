@@ -8,7 +8,7 @@ use native.Mathlib.Omega.{arith}
 use Rattle.laws.specs.Entries.{fill_more}
 use Rattle.wcdma_shape.specs.Shape.{prime_big, prime_listed, prime_small, rows_le, rows_pos}
 use Rattle.wcdma_setup.proofs.Steps.{first_next, q_next}
-use Rattle.wcdma_setup.specs.Found.{q_found}
+use Rattle.wcdma_setup.proofs.Found.{q_found}
 use Rattle.wcdma_setup.specs.Numbers.{q_of}
 use Rattle.wcdma_setup.proofs.find_numbers.Goals as goal
 

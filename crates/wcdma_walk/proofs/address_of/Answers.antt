@@ -5,7 +5,7 @@ use lib.Seq.{length-take-le}
 use mathlib.Core.Path.{◌∙◌, ◌≡◌, sym}
 use native.Mathlib.Omega.{arith}
 use Rattle.laws.specs.Leaves.{holds_l}
-use Rattle.wcdma.specs.Law.{turbo_lawful}
+use Rattle.wcdma.proofs.Law.{turbo_lawful}
 use Rattle.wcdma_walk.proofs.address_of.Goals as goal
 
 pub slice_bounds-walk-end : goal.slice_bounds-walk-end

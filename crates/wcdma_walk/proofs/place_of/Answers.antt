@@ -4,7 +4,7 @@ use mathlib.Core.Path.{◌∙◌, ap, sym}
 use native.Mathlib.Omega.{arith}
 use Rattle.laws.specs.Position.{position}
 use Rattle.wcdma_walk.proofs.Setup.{table_front}
-use Rattle.wcdma.specs.Law.{as_many}
+use Rattle.wcdma.proofs.Law.{as_many}
 use Rattle.wcdma.specs.Turbo.{turbo_m}
 use Rattle.wcdma_walk.proofs.place_of.Goals as goal
 

@@ -12,7 +12,7 @@ use Rattle.laws.specs.Perm.{Perm}
 use Rattle.laws.specs.Walk.{Lawful, bare_lawful}
 use Rattle.carrier.specs.Formula.{carrier_m, carrier_l}
 use Rattle.carrier.specs.Third.{turn, third_step, spatial_m, third_back, spatial_l, spatial_rule}
-use Rattle.carrier.specs.Once.{carrier_once}
+use Rattle.carrier.proofs.Once.{carrier_once}
 
 -- streams 1 to 4 are turned by 0, 2, 1 and 3 times r·bits
 pub three_at_most : (i : ℕ) → 1 ≤ i → i ≤ 4 → (2 * (i - 1)) % 3 + 3 * ((i - 1) / 3) ≤ 3

@@ -8,7 +8,7 @@ use Rattle.laws.specs.Sized.{Sized, groups_pos, d_le}
 use Rattle.laws.specs.Perm.{Perm}
 use Rattle.laws.specs.Walk.{Lawful, bare_lawful}
 use Rattle.carrier.specs.Formula.{carrier_m, carrier_l, carrier_rule}
-use Rattle.carrier.specs.Steps.{digits_perm}
+use Rattle.carrier.proofs.Steps.{digits_perm}
 
 module _ {d n s : ℕ} (z : Sized d n s) where
   pub carrier_once : Perm n (carrier_l d n s) (carrier_m d n s)

@@ -9,8 +9,8 @@ use Rattle.laws.specs.Euclid.{gcd, coprime}
 use Rattle.laws.specs.Shared.{OneToOne, Shared, failed_shared, shared_failed, run_perm}
 use Rattle.laws.specs.Walk.{Lawful, bare_lawful}
 use Rattle.quadratic.specs.Formula.{quadratic_l, quadratic_m, quadratic_rule, all_apart}
-use Rattle.quadratic.specs.Enough.{one_to_one}
-use Rattle.quadratic.specs.Needed.{f1_alone, f2_power}
+use Rattle.quadratic.proofs.Enough.{one_to_one}
+use Rattle.quadratic.proofs.Needed.{f1_alone, f2_power}
 
 module _ (k f1 f2 : ℕ) (hk : 0 < k) where
   pub address_below : (t : ℕ) → quadratic_l k f1 f2 t < k

@@ -22,7 +22,7 @@ use Rattle.wcdma_setup.specs.Numbers.{q_of}
 use Rattle.wcdma_shape.specs.Orders.{order_of, row_at, order_perm, order_listed}
 use Rattle.wcdma_shape.specs.Shape.{choice, rows_pos, rows_le, prime_listed, cols_low, cols_high, fits, cells_le}
 use Rattle.wcdma_shape.specs.Roots.{prime_root}
-use Rattle.wcdma_setup.specs.Found.{q_unit}
+use Rattle.wcdma_setup.proofs.Found.{q_unit}
 use Rattle.wcdma.specs.Turbo.{entry, column, origin, address, addresses, turbo_l, turbo_m, turbo_rule}
 use Rattle.wcdma.specs.Laid.{plain}
 use Rattle.wcdma.specs.Full.{first_row, column_back, column_lt}

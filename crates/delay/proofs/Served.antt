@@ -7,7 +7,8 @@ use Rattle.std.proofs.Math.Decide.{dec_lt, ℕ_discrete}
 use Rattle.delay.specs.Machine.{Machine, Stand, place_of, offset, slot_of, next_of, run_output, run_store, run_record}
 use Rattle.delay.specs.Slots.{offset_suc, offset_le}
 use Rattle.delay.specs.Bytes.{row_at, ring_few}
-use Rattle.delay.specs.Standing.{Within, After, output_number, store_number, stands_after}
+use Rattle.delay.specs.Standing.{Within, After}
+use Rattle.delay.proofs.Standing.{output_number, store_number, stands_after}
 use Rattle.delay.specs.Lane.{Lane, Leads, Next}
 use Rattle.delay.specs.Laning.{Rings, rings_none, rings_more, rings_all}
 

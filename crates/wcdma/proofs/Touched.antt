@@ -15,7 +15,7 @@ use Rattle.wcdma_shape.specs.Shape.{rows_pos, prime_big}
 use Rattle.wcdma.specs.Turbo.{full, exchanged, column, origin, address}
 use Rattle.wcdma.specs.Laid.{plain}
 use Rattle.wcdma.specs.Full.{first_row, row_takes, row_keeps, all_keep, full_cols, full_cells, origin_first, origin_last}
-use Rattle.wcdma.specs.Law.{first_alone}
+use Rattle.wcdma.proofs.Law.{first_alone}
 
 -- the sizes of full rectangles
 unfoldable pub full_sizes : List ℕ

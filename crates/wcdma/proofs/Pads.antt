@@ -6,7 +6,7 @@ use Rattle.laws.specs.Cut.{kept_or_padding}
 use Rattle.laws.specs.Once.{inside}
 use Rattle.wcdma_shape.specs.Rectangle.{Size, rows, primes, first_prime, prime, cols_of, cols, cells}
 use Rattle.wcdma.specs.Turbo.{address, addresses, pad_cells}
-use Rattle.wcdma.specs.Law.{as_many}
+use Rattle.wcdma.proofs.Law.{as_many}
 
 -- cells = K + padding
 pub cells_are : (k : ℕ) → k ≤ 5114 → cells k ≡ k + pad_cells k

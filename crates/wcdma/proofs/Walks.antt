@@ -4,7 +4,7 @@ use Rattle.std.proofs.Common.{sym, ◌∙◌}
 use Rattle.laws.specs.Walk.{walk_list, whole_list}
 use Rattle.wcdma_shape.specs.Rectangle.{Size}
 use Rattle.wcdma.specs.Turbo.{addresses, turbo_rule}
-use Rattle.wcdma.specs.Law.{turbo_lawful}
+use Rattle.wcdma.proofs.Law.{turbo_lawful}
 
 pub walk_whole : (k : ℕ) → Size k → (room : ℕ) → k ≤ room → walk_list k (turbo_rule k) 0 room ≡ addresses k
 unfolding addresses

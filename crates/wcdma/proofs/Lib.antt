@@ -1,0 +1,4 @@
+pub mod Law
+pub mod Pads
+pub mod Touched
+pub mod Walks
