@@ -1,0 +1,28 @@
+-- `tables::judge` meets its contract: each return by what the test of the set says, and by the two lengths.
+use mathlib.Core.Path.{sym, ap, ◌∙◌}
+use Rattle.laws.specs.Outcome.{refused}
+use Rattle.sets.specs.Verdict.{say_ruled, clear_accepts, stopped_refuses}
+use Rattle.sets.specs.Admits.{Accepted}
+use Rattle.tables.specs.Passed.{block_refused, is_five, is_six, block_served}
+use Rattle.tables.proofs.judge.Goals as goal
+
+pub returns-then-input-total : goal.returns-then-input-total
+returns-then-input-total c =
+    is_five _ _ _ _ (let accepted_here : Accepted c.args.set = clear_accepts _ (sym c.ruling_of.ensures ∙ ap say_ruled c.in-Clear.is) in accepted_here) c.length_of-total.ensures c.if-input-total.true c.refusal_of-then-input-total.ensures
+
+pub returns-then-output-total : goal.returns-then-output-total
+returns-then-output-total c =
+    is_six _ _ _ _ (let accepted_here : Accepted c.args.set = clear_accepts _ (sym c.ruling_of.ensures ∙ ap say_ruled c.in-Clear.is) in accepted_here) c.length_of-total.ensures c.if-input-total.false c.if-output-total.true c.refusal_of-then-output-total.ensures
+
+pub returns-in-Stopped : goal.returns-in-Stopped
+returns-in-Stopped c =
+    ap refused c.refusal_of.ensures
+    ∙ block_refused _ _ _ _ (stopped_refuses _ (sym c.ruling_of.ensures ∙ ap say_ruled c.in-Stopped.is))
+
+pub returns-else-output-total : goal.returns-else-output-total
+returns-else-output-total c =
+    let e = c.length_of-total.ensures in
+    sym (block_served _ _ (let accepted_here : Accepted c.args.set = clear_accepts _ (sym c.ruling_of.ensures ∙ ap say_ruled c.in-Clear.is) in accepted_here) (c.if-input-total.false ∙ e) (c.if-output-total.false ∙ e))
+
+pub length_of-total-requires : goal.length_of-total-requires
+length_of-total-requires c = (let accepted_here : Accepted c.args.set = clear_accepts _ (sym c.ruling_of.ensures ∙ ap say_ruled c.in-Clear.is) in accepted_here)

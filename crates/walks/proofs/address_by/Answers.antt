@@ -1,0 +1,26 @@
+-- `walks::address_by` meets its contract: a refused set is refused, then a position that is N or more, and else it is the family's address.
+use mathlib.Core.Path.{sym, ap, ◌∙◌}
+use native.Mathlib.Omega.{arith}
+use Rattle.laws.specs.Outcome.{refused}
+use Rattle.sets.specs.Verdict.{say_ruled, clear_accepts, stopped_refuses}
+use Rattle.sets.specs.Admits.{Accepted}
+use Rattle.walks.specs.Passed.{one_refused, one_past, one_found, one_small}
+use Rattle.walks.proofs.address_by.Goals as goal
+
+pub returns-then-x-set : goal.returns-then-x-set
+returns-then-x-set c = one_past _ _ _ (let accepted_here : Accepted c.args.set = clear_accepts _ (sym c.ruling_of-v.ensures ∙ ap say_ruled c.in-Clear.is) in accepted_here) c.if-x-set.true c.refusal_of-then-x-set.ensures
+
+pub address-requires : goal.address-requires
+address-requires c = ((let accepted_here : Accepted c.args.set = clear_accepts _ (sym c.ruling_of-v.ensures ∙ ap say_ruled c.in-Clear.is) in accepted_here), omega (arith, c.if-x-set.false))
+
+pub returns-in-Stopped : goal.returns-in-Stopped
+returns-in-Stopped c =
+    ap refused c.refusal_of.ensures
+    ∙ one_refused _ _ _ (stopped_refuses _ (sym c.ruling_of-v.ensures ∙ ap say_ruled c.in-Stopped.is))
+
+pub returns-else-x-set : goal.returns-else-x-set
+returns-else-x-set c = one_found _ _ _ (let accepted_here : Accepted c.args.set = clear_accepts _ (sym c.ruling_of-v.ensures ∙ ap say_ruled c.in-Clear.is) in accepted_here) (omega (arith, c.if-x-set.false)) c.address.ensures
+
+pub overflow_cast-result : goal.overflow_cast-result
+overflow_cast-result c = let a = c.args in
+    omega (arith, c.address.ensures, one_small a.way a.set a.x (let accepted_here : Accepted c.args.set = clear_accepts _ (sym c.ruling_of-v.ensures ∙ ap say_ruled c.in-Clear.is) in accepted_here) (omega (arith, c.if-x-set.false)))
