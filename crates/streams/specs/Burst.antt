@@ -6,9 +6,9 @@ use Rattle.std.proofs.lemmas.List.{length-replicate}
 use Rattle.laws.specs.declared.Way.TheVariants.{Deinterleaver}
 use Rattle.delay.specs.Machine.{start_stand, slot_of, next_of, spread_of}
 use Rattle.delay.specs.Burst.{distance, Only}
-use Rattle.delay.specs.Burst as burst
+use Rattle.delay.proofs.Burst as burst
 use Rattle.delay.specs.Numbered.{pair, numbered, byte_of}
-use Rattle.delay.specs.Numbered as numbers
+use Rattle.delay.proofs.Numbered as numbers
 use Rattle.kinds.specs.declared.Stream.{Stream}
 use Rattle.kinds.specs.Kinds.{sizes_of, sound, machine_of, start_record, place_in}
 use Rattle.streams.specs.Fed.{start_store, fed_output}
