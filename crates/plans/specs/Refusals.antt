@@ -10,7 +10,8 @@ use Rattle.laws.specs.Told.{told_unless, told_join}
 use Rattle.laws.specs.Unsaid.{among, not_in_front, not_behind}
 use Rattle.sets.specs.declared.Set.{Set}
 use Rattle.sets.specs.Verdict.{refusal}
-use Rattle.sets.specs.Refusals.{set_sentences, set_told, refusals_apart}
+use Rattle.sets.specs.Refusals.{set_sentences}
+use Rattle.sets.proofs.Refusals.{set_told, refusals_apart}
 use Rattle.pieces.specs.Pieces.{list_of}
 use Rattle.plan_form.specs.Form.{plans_in, set_in, set_of, list_in, formed, file_line}
 use Rattle.plan_form.specs.Gapless.{PlanFile, formed_exactly}

@@ -23,7 +23,8 @@ use Rattle.streams.specs.Condition3 as condition3
 use Rattle.streams.specs.Ready as readiness
 use Rattle.streams.specs.Ready.{Stood, Ready}
 use Rattle.streams.specs.Blind as blindness
-use Rattle.streams.specs.Refusals.{Known, is_known, start_sentences, feed_sentences}
+use Rattle.streams.specs.Refusals.{Known}
+use Rattle.streams.proofs.Refusals.{is_known, start_sentences, feed_sentences}
 use Rattle.streams.specs.Refusals as refusals
 
 -- the two kinds by their numbers: branches, bytes of a step, bytes of the store

@@ -14,7 +14,7 @@ use Rattle.sets.specs.Set.{size_of}
 use Rattle.sets.specs.Stream.{stream_lines}
 use Rattle.sets.specs.Beside.{beside_lines}
 use Rattle.sets.specs.Verdict.{size_lines, set_lines, refusal, refusal_number, verdict_of, stopped_refuses}
-use Rattle.sets.specs.Admits.{listed_clear}
+use Rattle.sets.proofs.Admits.{listed_clear}
 
 -- with 3: the least listed size from N on, or 0
 size_of_3 : (s : Set) → (refusal s 3).size ≡ fitting (size_of s)
