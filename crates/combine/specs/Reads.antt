@@ -8,7 +8,8 @@ use Rattle.sets.specs.declared.Set.{Set}
 use Rattle.sets.specs.declared.Refusal.{Refusal}
 use Rattle.sets.specs.Set.{family_of, is_coupled}
 use Rattle.sets.specs.Verdict.{refusal, verdict_of}
-use Rattle.sets.specs.Admits.{Accepted, accepted_front, set_refused}
+use Rattle.sets.specs.Admits.{Accepted}
+use Rattle.sets.proofs.Admits.{accepted_front, set_refused}
 use Rattle.positions.specs.Heard.{Kept, held}
 use Rattle.combine.specs.Answer.{told_of, both_long, read_lines, read_of}
 use Rattle.adders.specs.Lengths.{one_off, off_both}

@@ -13,9 +13,11 @@ use Rattle.sets.specs.declared.Set.{Set}
 use Rattle.sets.specs.Set.{family_of, is_coupled}
 use Rattle.sets.specs.Numbered.{nine_coupled, coupled_nine}
 use Rattle.sets.specs.Beside.{the_coupled, plain_other}
-use Rattle.sets.specs.Admits.{Accepted, accepted_front}
+use Rattle.sets.specs.Admits.{Accepted}
+use Rattle.sets.proofs.Admits.{accepted_front}
 use Rattle.sets.specs.Verdict.{refusal}
-use Rattle.sets.specs.Refusals.{set_sentences, set_told, refusals_apart}
+use Rattle.sets.specs.Refusals.{set_sentences}
+use Rattle.sets.proofs.Refusals.{set_told, refusals_apart}
 use Rattle.families.specs.Rules.{L}
 use Rattle.positions.specs.Heard.{Reception, Kept, kept, held, one, count_rise}
 use Rattle.adders.specs.Any.{any, Somewhere, any_some, any_none}

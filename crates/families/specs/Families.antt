@@ -9,7 +9,7 @@ use Rattle.profiles.specs.declared.Family.{Family}
 use Rattle.profiles.specs.declared.Family.TheVariants.{Carrier, Spatial, Turbo, Quadratic, Coupled}
 use Rattle.sets.specs.Set.{rows_of, rotation_of, group_of, f1, f2, couples_of}
 use Rattle.sets.specs.Fit.{Carried}
-use Rattle.sets.specs.Carried.{carrier_size, spatial_size, stream_in, turbo_size, quadratic_size, coupled_size}
+use Rattle.sets.proofs.Carried.{carrier_size, spatial_size, stream_in, turbo_size, quadratic_size, coupled_size}
 use Rattle.carrier.specs.Formula.{carrier_rule}
 use Rattle.carrier.specs.Block.{Whole}
 use Rattle.carrier_turned.specs.declared.Stream.{Stream}

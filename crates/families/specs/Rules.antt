@@ -11,7 +11,7 @@ use Rattle.profiles.specs.declared.Family.{Family}
 use Rattle.profiles.specs.declared.Family.TheVariants.{Carrier, Spatial, Turbo, Quadratic, Coupled}
 use Rattle.sets.specs.Set.{family_of, rows_of, rotation_of, group_of, f1, f2, couples_of}
 use Rattle.sets.specs.Verdict.{verdict_of}
-use Rattle.sets.specs.Carried.{carrier_size, spatial_size, stream_in, turbo_size, quadratic_size, coupled_size}
+use Rattle.sets.proofs.Carried.{carrier_size, spatial_size, stream_in, turbo_size, quadratic_size, coupled_size}
 use Rattle.carrier.specs.Formula.{carrier_l, carrier_m, carrier_rule}
 use Rattle.carrier.proofs.Once.{carrier_lawful}
 use Rattle.carrier.specs.Third.{turn, spatial_l, spatial_m, spatial_rule}

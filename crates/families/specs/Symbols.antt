@@ -13,7 +13,7 @@ use Rattle.laws.specs.Walk.{Rule, in_way}
 use Rattle.sets.specs.declared.Set.{Set}
 use Rattle.sets.specs.Set.{family_of, is_coupled}
 use Rattle.sets.specs.Beside.{the_coupled}
-use Rattle.sets.specs.Carried.{sizes_small, coupled_size}
+use Rattle.sets.proofs.Carried.{sizes_small, coupled_size}
 use Rattle.sets.specs.Verdict.{verdict_of}
 use Rattle.couples.specs.Symbols.{symbol_rule, symbols_once}
 use Rattle.families.specs.Rules.{rule_of, lawful}

@@ -18,8 +18,9 @@ use Rattle.kinds.specs.Ranges.{is_known, range_in}
 use Rattle.streams.specs.Fed.{fed_store, fed_record}
 use Rattle.streams.specs.Answers.{Call, call, lines_of}
 use Rattle.streams.specs.Answers as machines
-use Rattle.streams.specs.Condition3.{one_call}
-use Rattle.streams.specs.Ready.{Ready, goes_on}
+use Rattle.streams.proofs.Condition3.{one_call}
+use Rattle.streams.specs.Ready.{Ready}
+use Rattle.streams.proofs.Ready.{goes_on}
 use Rattle.gateway_form.specs.Form.{kind_of, places_of, stand_bytes, machines_in, entry_place, entry_in, offset_in, length_in, share_in}
 use Rattle.gateway_form.specs.Gateways.{Gateway, entry_inside, share_inside}
 use Rattle.gateway.specs.Answers.{Feed, feed, feed_lines, way_in, record_in, turned, passed, says, store_after, output_after}

@@ -14,7 +14,8 @@ use Rattle.kinds.specs.declared.Stream.{Stream}
 use Rattle.kinds.specs.Kinds.{known, sizes_of, sound, start_record}
 use Rattle.kinds.specs.Ranges.{known_is, ranges}
 use Rattle.streams.specs.Fed.{start_store}
-use Rattle.streams.specs.Ready.{Ready, ready_start}
+use Rattle.streams.specs.Ready.{Ready}
+use Rattle.streams.proofs.Ready.{ready_start}
 use Rattle.gateway_form.specs.Form.{kind_of, direction_of, offset_of, length_of, record_of, directed, stand_bytes, entry_bytes}
 use Rattle.gateway_form.specs.Form.{machines_in, entry_place, entry_in, offset_in, length_in, share_in}
 use Rattle.gateway_form.specs.Back.{Kept, ranges_kept, stand_length, branch_back, places_back}

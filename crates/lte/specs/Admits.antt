@@ -12,8 +12,8 @@ use Rattle.sets.specs.Numbered.{eight_quadratic}
 use Rattle.sets.specs.Ranges.{not_outside}
 use Rattle.sets.specs.Beside.{OutOfRange, TwoShare, beside_sentences, factors_range}
 use Rattle.sets.specs.Verdict.{verdict_of}
-use Rattle.sets.specs.Admits.{accepted_factors}
-use Rattle.sets.specs.OneRow.{row_admits}
+use Rattle.sets.proofs.Admits.{accepted_factors}
+use Rattle.sets.proofs.OneRow.{row_admits}
 use Rattle.lte.specs.Factors.{lte_row}
 use Rattle.quadratic.specs.Formula.{quadratic_l}
 

@@ -15,8 +15,9 @@ use Rattle.sets.specs.declared.Set.{Set}
 use Rattle.sets.specs.declared.Refusal.{Refusal}
 use Rattle.sets.specs.Set.{no_factors}
 use Rattle.sets.specs.Verdict.{refusal}
-use Rattle.sets.specs.Refusals.{refusals_apart}
-use Rattle.sets.specs.OneRow.{OneRow, passes_row}
+use Rattle.sets.proofs.Refusals.{refusals_apart}
+use Rattle.sets.specs.OneRow.{OneRow}
+use Rattle.sets.proofs.OneRow.{passes_row}
 use Rattle.lte.specs.declared.Given.{Given}
 use Rattle.lte.specs.declared.Given.TheVariants.{Of, Refused}
 use Rattle.lte.specs.Standard.{Row, standard}

@@ -15,7 +15,7 @@ use Rattle.sets.specs.declared.Set.{Set}
 use Rattle.sizes.specs.Listed.{bits_small}
 use Rattle.sizes.specs.Admits.{listed_passing}
 use Rattle.sets.specs.Set.{size_of}
-use Rattle.sets.specs.Admits.{accepted_listed}
+use Rattle.sets.proofs.Admits.{accepted_listed}
 use Rattle.families.specs.Rules.{L, lawful}
 use Rattle.pieces.specs.Pieces.{list_of}
 use Rattle.plan_form.specs.Form.{entry_place, set_of, plans_in, set_in, offset_in, count_in, addresses_at, list_in, lists_meet, formed}

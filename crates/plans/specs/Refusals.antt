@@ -4,13 +4,14 @@
 use Rattle.std.specs.Prelude.{ℕ, ◌-◌, ◌/◌, ◌%◌, ◌<◌, true, false, List, [], ◌∷◌, ◌++◌, ◌↔◌, ◌≢◌, ◌≡◌, eqb, length}
 use Rattle.std.proofs.Common.{sym, ap, ◌∙◌, eqb-true}
 use Rattle.std.proofs.lemmas.Bool.{eqb-false}
-use Rattle.laws.specs.Outcome.{refused, Line, line, stopped, first, judged, refused_first, stopped_first}
+use Rattle.laws.specs.Outcome.{refused, Clear, Line, line, stopped, first, judged, refused_first, stopped_first}
 use Rattle.laws.specs.Sentences.{Sentence, sentence, FirstTrue, Told, none, more, told_differ, told_past, said_exactly, kept_alone}
 use Rattle.laws.specs.Told.{told_unless, told_join}
 use Rattle.laws.specs.Unsaid.{among, not_in_front, not_behind}
 use Rattle.sets.specs.declared.Set.{Set}
 use Rattle.sets.specs.Verdict.{refusal}
-use Rattle.sets.specs.Refusals.{set_sentences, set_told, refusals_apart}
+use Rattle.sets.specs.Refusals.{set_sentences}
+use Rattle.sets.proofs.Refusals.{set_told, refusals_apart}
 use Rattle.pieces.specs.Pieces.{list_of}
 use Rattle.plan_form.specs.Form.{plans_in, set_in, set_of, list_in, formed, file_line}
 use Rattle.plan_form.specs.Gapless.{PlanFile, formed_exactly}
@@ -60,7 +61,7 @@ planned_told s = told_past 1 5 s.profile (set_told s)
 
 all_told : {C : Type 0} (ss : List Set) → Told C (all_lines ss) (all_sentences ss)
 all_told [] = none
-all_told (s ∷ ss) = told_join (planned_told s) (all_told ss)
+all_told {C = C} (s ∷ ss) = told_join (planned_told s) (all_told {C = C × Clear (planned_lines s)} ss)
 
 told_zero : {C : Type 0} {ls : List Line} {ps : List Sentence} (k a : ℕ) → Told (C × (eqb a 0 ≡ false)) ls ps → Told C (line k (eqb a 0) ∷ ls) (sentence k (a ≡ 0) ∷ ps)
 told_zero k a t = more {p = a ≡ 0} (λ c e. eqb-true a 0 e) (λ c e n. eqb-false a 0 e n) t

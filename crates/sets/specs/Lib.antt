@@ -7,7 +7,6 @@ pub mod Factored
 pub mod Beside
 pub mod Verdict
 pub mod Admits
-pub mod Handed
 pub mod Listed
 pub mod Carried
 pub mod Refusals

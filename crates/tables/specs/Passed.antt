@@ -17,7 +17,8 @@ use Rattle.sets.specs.declared.Set.{Set}
 use Rattle.sets.specs.declared.Refusal.{Refusal}
 use Rattle.sets.specs.Set.{family_of, is_coupled}
 use Rattle.sets.specs.Verdict.{set_lines, refusal, verdict_of}
-use Rattle.sets.specs.Admits.{Accepted, accepted_front, set_refused, front_accepted}
+use Rattle.sets.specs.Admits.{Accepted}
+use Rattle.sets.proofs.Admits.{accepted_front, set_refused, front_accepted}
 use Rattle.families.specs.Rules.{L, lawful}
 use Rattle.families.specs.Symbols.{symbols_of, block_l, block_m, symbols_two, block_coupled, symbols_plain, block_plain, block_once, symbols_most}
 use Rattle.families.specs.Taken.{WalkLeaf, leaf_had}

@@ -6,7 +6,8 @@ use Rattle.laws.specs.Sentences.{Sentence, sentence, FirstTrue, Told, none, told
 use Rattle.laws.specs.Told.{told_join}
 use Rattle.sets.specs.declared.Set.{Set}
 use Rattle.sets.specs.Verdict.{refusal}
-use Rattle.sets.specs.Refusals.{set_sentences, set_told, refusals_apart}
+use Rattle.sets.specs.Refusals.{set_sentences}
+use Rattle.sets.proofs.Refusals.{set_told, refusals_apart}
 use Rattle.tables.specs.Answer.{block_lines, moved_of}
 
 -- 5: input length isn't the block's; 6: output length isn't

@@ -7,13 +7,13 @@ use Rattle.std.proofs.Common.{arith, lit<}
 use Rattle.laws.specs.declared.Way.TheVariants.{Deinterleaver}
 use Rattle.delay.specs.Machine.{comes_at, spread_of}
 use Rattle.delay.specs.Burst.{distance, Only}
-use Rattle.delay.specs.Burst as delays
+use Rattle.delay.proofs.Burst as delays
 use Rattle.delay.specs.Numbered.{numbered}
 use Rattle.kinds.specs.declared.Stream.{Stream}
 use Rattle.kinds.specs.Kinds.{sizes_of, sound, place_in}
 use Rattle.streams.specs.Calls.{Fresh, Calls}
 use Rattle.streams.specs.Burst.{traced}
-use Rattle.streams.specs.Burst as burst
+use Rattle.streams.proofs.Burst as burst
 
 -- the place of channel byte a: a + 204·(11 - a mod 12) of DVB, a + 208·(51 - a mod 52) of ATSC
 pub places_are : (a : ℕ) → (place_in 1 a ≡ a + 204 * (11 - a % 12)) × (place_in 2 a ≡ a + 208 * (51 - a % 52))

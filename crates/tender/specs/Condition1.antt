@@ -7,7 +7,8 @@ use Rattle.laws.specs.Outcome.{refused}
 use Rattle.laws.specs.Sentences.{FirstTrue}
 use Rattle.sets.specs.declared.Set.{Set}
 use Rattle.sets.specs.Verdict.{refusal, verdict_of}
-use Rattle.sets.specs.Refusals.{set_sentences, refusal_order_test}
+use Rattle.sets.specs.Refusals.{set_sentences}
+use Rattle.sets.proofs.Refusals.{refusal_order_test}
 use Rattle.families.specs.Symbols.{symbols_of}
 use Rattle.walks.specs.declared.Walk.{Walk}
 use Rattle.walks.specs.Answer.{walked_of, slice_of, found_of}

@@ -14,10 +14,11 @@ use Rattle.sets.specs.declared.Set.{Set}
 use Rattle.sets.specs.Set.{rows_of, rotation_of, group_of}
 use Rattle.profiles.specs.Profiles.{ofdm, ofdma, wlan, bench, turbo, ht20, ht40, lte, lte_sizes, wimax, couple_sizes}
 use Rattle.sizes.specs.Listed.{length_turbo}
-use Rattle.sets.specs.Listed.{entry_of, sets_of, listed_sets, sets_of_lem}
+use Rattle.sets.specs.Listed.{entry_of, sets_of, listed_sets}
+use Rattle.sets.proofs.Listed.{sets_of_lem}
 use Rattle.sets.specs.Beside.{beside_sentences, plain_other}
 use Rattle.sets.specs.Verdict.{verdict_of}
-use Rattle.sets.specs.Listed as admitted
+use Rattle.sets.proofs.Listed as admitted
 use Rattle.sets.specs.Numbered.{carrier_profile, five_turbo, spatial_profile, ht20_numbers, ht40_numbers}
 use Rattle.carrier.specs.Formula.{carrier_l, carrier_m}
 use Rattle.carrier.proofs.Once.{carrier_once}

@@ -15,8 +15,8 @@ use Rattle.sets.specs.declared.Set.{Set}
 use Rattle.sets.specs.declared.Refusal.{Refusal}
 use Rattle.sets.specs.Set.{family_of}
 use Rattle.sets.specs.Verdict.{set_lines, ruling_of, refusal, verdict_of, fitting_of, stopped_refuses}
-use Rattle.sets.specs.Handed.{least_with_3, none_without_3, its_number, as_tested, three_unsaid}
-use Rattle.sets.specs.Handed as law
+use Rattle.sets.proofs.Handed.{least_with_3, none_without_3, its_number, as_tested, three_unsaid}
+use Rattle.sets.proofs.Handed as law
 use Rattle.lte.specs.Factors.{lte_set, given_lines, given_of, standard_factors}
 use Rattle.wcdma_report.specs.Report.{is_size, turbo_set, figures, figures_lines, figures_of}
 use Rattle.wcdma_report.specs.Sized.{listed_is}

@@ -22,7 +22,7 @@ use Rattle.lte.specs.Standard.{Row, row, standard}
 use Rattle.lte.specs.Factors.{two, lte_with, lte_set, standard_factors, given_lines, given_of, given_sentences}
 use Rattle.lte.specs.Factors as own
 use Rattle.lte.specs.Accepted.{set_of}
-use Rattle.lte.specs.Accepted as rows
+use Rattle.lte.proofs.Accepted as rows
 use Rattle.lte.specs.Admits as lte
 use Rattle.flat.specs.Flat.{number_of, out_of, factors_list}
 use Rattle.tender.specs.Zero.{zero_is_done, number_is_first, out_is_after, positive}

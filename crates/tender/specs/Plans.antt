@@ -8,7 +8,7 @@ use Rattle.laws.specs.Outcome.{done, refused, Clear, first_clear, clear_first, c
 use Rattle.laws.specs.Sentences.{FirstTrue}
 use Rattle.sets.specs.Verdict.{set_lines, refusal, verdict_of}
 use Rattle.sets.specs.Admits.{Accepted}
-use Rattle.sets.specs.Handed.{its_number}
+use Rattle.sets.proofs.Handed.{its_number}
 use Rattle.pieces.specs.Pieces.{list_of}
 use Rattle.plan_form.specs.Form.{plans_in, set_in, set_of, list_in, formed}
 use Rattle.plan_form.specs.Gapless.{PlanFile, formed_exactly}

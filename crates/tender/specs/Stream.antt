@@ -19,12 +19,13 @@ use Rattle.streams.specs.Fed.{start_store, fed_output, fed_store, fed_record}
 use Rattle.streams.specs.Answers.{say, started_of, started_record, started_store, Call, call, says, record_after, store_after, output_after}
 use Rattle.streams.specs.Answers as answers
 use Rattle.streams.specs.Calls.{Fresh, Calls}
-use Rattle.streams.specs.Condition3 as condition3
-use Rattle.streams.specs.Ready as readiness
+use Rattle.streams.proofs.Condition3 as condition3
+use Rattle.streams.proofs.Ready as readiness
 use Rattle.streams.specs.Ready.{Stood, Ready}
 use Rattle.streams.specs.Blind as blindness
-use Rattle.streams.specs.Refusals.{Known, is_known, start_sentences, feed_sentences}
-use Rattle.streams.specs.Refusals as refusals
+use Rattle.streams.specs.Refusals.{Known}
+use Rattle.streams.proofs.Refusals.{is_known, start_sentences, feed_sentences}
+use Rattle.streams.proofs.Refusals as refusals
 
 -- the two kinds by their numbers: branches, bytes of a step, bytes of the store
 pub kinds_are : (sizes_of 1 ≡ record { branches = 12; step = 17; store = 1122 }) × (sizes_of 2 ≡ record { branches = 52; step = 4; store = 5304 })

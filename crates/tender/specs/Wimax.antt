@@ -19,7 +19,7 @@ use Rattle.sets.specs.Beside.{factors_in, factors_apart}
 use Rattle.sets.specs.Numbered.{nine_coupled}
 use Rattle.sets.specs.Verdict.{set_lines, refusal, verdict_of}
 use Rattle.sets.specs.Refusals.{set_sentences}
-use Rattle.sets.specs.Wimax as wimax
+use Rattle.sets.proofs.Wimax as wimax
 use Rattle.couples.specs.Formula.{offset, couple_l, turn, turns_differ, all_apart}
 use Rattle.couples.specs.Symbols.{symbol_l, pair_even, pair_odd}
 use Rattle.families.specs.Rules.{rule_is}

@@ -16,7 +16,8 @@ use Rattle.sets.specs.Set.{family_of}
 use Rattle.sets.specs.Verdict.{set_lines, refusal, verdict_of}
 use Rattle.walks.specs.declared.Walk.{Walk}
 use Rattle.families.specs.Rules.{rule_in, barred, lawful_way}
-use Rattle.sets.specs.Admits.{Accepted, accepted_front, set_refused}
+use Rattle.sets.specs.Admits.{Accepted}
+use Rattle.sets.proofs.Admits.{accepted_front, set_refused}
 use Rattle.families.specs.Taken.{way_lines, WalkLeaf}
 use Rattle.walks.specs.Answer.{walk_lines, one_lines, Values, values, walk_next, walk_slice, walk_values, walked_of, slice_of, found_of}
 

@@ -13,7 +13,8 @@ use Rattle.profiles.specs.declared.Family.TheVariants.{Carrier, Spatial, Turbo, 
 use Rattle.sets.specs.Set.{family_of}
 use Rattle.sets.specs.Numbered.{five_turbo, turbo_five, eight_quadratic, quadratic_eight, nine_coupled, coupled_nine}
 use Rattle.sets.specs.Verdict.{refusal}
-use Rattle.sets.specs.Refusals.{set_sentences, set_told, refusals_apart}
+use Rattle.sets.specs.Refusals.{set_sentences}
+use Rattle.sets.proofs.Refusals.{set_told, refusals_apart}
 use Rattle.walks.specs.declared.Walk.{Walk}
 use Rattle.families.specs.Rules.{rule_in, one_way, barred}
 use Rattle.walks.specs.Answer.{walk_lines, one_lines, walk_values, walk_slice, walked_of, slice_of, found_of}

@@ -13,7 +13,8 @@ use Rattle.sets.specs.Numbered.{turbo_five, quadratic_eight, coupled_nine}
 use Rattle.walks.specs.declared.Walk.{Walk}
 use Rattle.families.specs.Rules.{rule_in, one_way, barred}
 use Rattle.walks.specs.Answer.{walk_lines, walk_values, walked_of, found_of}
-use Rattle.sets.specs.Admits.{Accepted, accepted_front}
+use Rattle.sets.specs.Admits.{Accepted}
+use Rattle.sets.proofs.Admits.{accepted_front}
 use Rattle.families.specs.Taken.{Walkable}
 use Rattle.walks.specs.Passed.{one_found}
 use Rattle.walks.specs.Refusals.{NotWalked}

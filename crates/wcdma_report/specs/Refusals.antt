@@ -5,7 +5,7 @@ use Rattle.laws.specs.Outcome.{done, refused}
 use Rattle.laws.specs.Sentences.{Sentence, sentence, FirstTrue, Told, none, said_exactly}
 use Rattle.laws.specs.Told.{told_unless}
 use Rattle.sets.specs.Verdict.{refusal}
-use Rattle.sets.specs.Refusals.{refusals_apart}
+use Rattle.sets.proofs.Refusals.{refusals_apart}
 use Rattle.wcdma_shape.specs.Rectangle.{Size}
 use Rattle.wcdma_report.specs.Report.{turbo_set, figures, totals, figures_lines, totals_lines, figures_of, totals_of, Between}
 use Rattle.wcdma_report.specs.Sized.{is_size_lem, size_is, is_range_lem, range_is}

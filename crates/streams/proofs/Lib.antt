@@ -1,0 +1,4 @@
+pub mod Burst
+pub mod Condition3
+pub mod Ready
+pub mod Refusals
