@@ -6,23 +6,18 @@ ln -s "$top/interleaver" "$work/link"
 (cd "$work" && [ "$(./link at 3 4 192 13)" = 1 ])
 expect 'by a link from another folder' $?
 
-# A repository of three crates, and an rt that takes each up for HOLD seconds and then has the program ready, or fails where there is a file `wrong`.
-# Its clock is at 1,000 s when it is first asked, and then at 1,072.
+# A repository of three crates and one beside them, and an rt that takes HOLD seconds for a crate and makes the program of the last, or fails where
+# there is a file `wrong`. Its clock is at 1,000 s when it is first asked, and then at 1,072.
 kit=$(dirname "$(dirname "$(readlink -f "$(command -v rt)")")")
-mkdir -p "$work/small/bin" "$work/small/crates"
+mkdir -p "$work/small/bin" "$work/small/crates/low" "$work/small/crates/high" "$work/small/crates/interleaver"
 cp interleaver "$work/small/"
-cp target/bin/interleaver "$work/small/program"
-printf '# crates\nlow:\nhigh: low io\nother:\ninterleaver: high low os # the program\n' >"$work/small/crates.txt"
+cp crates/interleaver/out/interleaver "$work/small/program"
+printf '# crates\nlow:\nhigh: low io\nother:\ninterleaver: high low io # the program\n' >"$work/small/crates.txt"
 cat >"$work/small/bin/rt" <<'END'
 #!/bin/sh
-mkdir -p target/log target/bin
-if [ -e wrong ]; then seq 30; exit 1; fi
-for crate in low high interleaver; do
-    : >target/log/$crate.out
-    sleep "$HOLD"
-    echo done >target/log/$crate.out
-done
-cp program target/bin/interleaver
+if [ -e ../../wrong ]; then seq 30; exit 1; fi
+sleep "$HOLD"
+[ "$1" = lib ] || { mkdir -p out && cp ../../program out/interleaver; }
 END
 cat >"$work/small/bin/date" <<'END'
 #!/bin/sh
@@ -40,7 +35,7 @@ expect 'a first use off a terminal' $?
 
 # on one: each crate that is taken up, in a line that is cleared before the answer; and nothing of it at the second use
 if command -v script >/dev/null; then
-    rm -r "$work/small/target"
+    rm -r "$work/small/target" "$work/small/crates/interleaver/out"
     hold=3
     small script -qec "$work/small/interleaver at 3 4 192 13" /dev/null </dev/null | tr '\r' '\n' >"$work/got"
     for part in '1 of 3: low' '2 of 3: high' '3 of 3: interleaver'; do
@@ -53,7 +48,7 @@ if command -v script >/dev/null; then
 fi
 
 # a build that fails: the end of what rt said, and status 2
-rm -r "$work/small/target"
+rm -r "$work/small/target" "$work/small/crates/interleaver/out"
 : >"$work/small/wrong"
 small "$work/small/interleaver" at 3 4 192 13 >"$work/got" 2>"$work/said"
 [ $? -eq 2 ] && [ ! -s "$work/got" ] && [ "$(sed 1d "$work/said")" = "$(seq 11 30)" ]

@@ -152,12 +152,10 @@ printf '40\n5114\n' | ./interleaver padding >/dev/full 2>"$work/said"
 expect 'padding to a full device' $?
 
 # the program by itself gives the same
-rt check padding >/dev/null 2>&1 </dev/null
-tools=${RATTLE_HOME:-$(dirname "$(dirname "$(readlink -f "$(command -v rt)")")")}/on/$(uname -m)/toolchain
-emulator=$tools/bin/qemu-x86_64
-[ -x "$emulator" ] || emulator=''
+(cd crates/padding && rt run) >/dev/null 2>&1 </dev/null
+tools=${RATTLE_HOME:-$(dirname "$(dirname "$(readlink -f "$(command -v rt)")")")}/toolchain
 printf '40\n41\nmore' | {
-    ${emulator:+"$emulator"} "$tools/lib/ld-linux-x86-64.so.2" --library-path "$tools/lib" target/bin/padding && cat
+    "$tools/lib/ld-linux-x86-64.so.2" --library-path "$tools/lib" crates/padding/out/padding && cat
 } >"$work/got"
 printf '%s\nmore' "$two" | cmp -s - "$work/got"
 expect 'the program padding by itself' $?

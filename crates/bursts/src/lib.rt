@@ -6,8 +6,8 @@ pub mod picture; // picture.rt: as an SVG
 
 ghost use Rattle.std.specs.Prelude.{◌≤◌};
 
-use libc::STDOUT_FILENO;
-use words::text::{say, write};
+use system::System;
+use words::text::{To, say, write};
 
 // The longest burst that is shown.
 pub const LONGEST: u32 = 1024;
@@ -23,14 +23,15 @@ fn limited(length: u32) -> u32
 }
 
 // The least distance between any two of the first n bytes, in words.
-fn least(kind: u32, at: u32, n: u32) {
+fn least(system: System, kind: u32, at: u32, n: u32) {
     if n > 1 {
         say(
-            STDOUT_FILENO,
+            system,
+            To::Output,
             b"least distance ",
             channel::nearest(kind, at, n),
         );
         return;
     }
-    write(STDOUT_FILENO, b"least distance none");
+    write(system, To::Output, b"least distance none");
 }

@@ -1,26 +1,26 @@
 // A burst as a table: each of its bytes and the place where it comes out, a line each; then the least distance between any two of them.
 use super::{least, limited};
-use libc::STDOUT_FILENO;
-use words::text::{put, put_number, write};
+use system::System;
+use words::text::{To, put, put_number, write};
 
-fn lines(kind: u32, at: u32, n: u32) {
+fn lines(system: System, kind: u32, at: u32, n: u32) {
     let mut room = [0u8; 4096];
     let mut end = 0;
     let mut i = 0;
     while i < n {
-        end = put_number(&mut room, end, at as u64 + i as u64);
-        end = put(&mut room, end, b" ");
-        end = put_number(&mut room, end, channel::place(kind, at, i));
-        end = put(&mut room, end, b"\n");
+        end = put_number(system, &mut room, end, at as u64 + i as u64);
+        end = put(system, &mut room, end, b" ");
+        end = put_number(system, &mut room, end, channel::place(kind, at, i));
+        end = put(system, &mut room, end, b"\n");
         i += 1;
     }
-    words::text::flush(&room, end);
+    words::text::flush(system, &room, end);
 }
 
 // `dvb burst` and `atsc burst`.
-pub fn table(kind: u32, at: u32, length: u32) {
+pub fn table(system: System, kind: u32, at: u32, length: u32) {
     let n = limited(length);
-    lines(kind, at, n);
-    least(kind, at, n);
-    write(STDOUT_FILENO, b"\n");
+    lines(system, kind, at, n);
+    least(system, kind, at, n);
+    write(system, To::Output, b"\n");
 }

@@ -6,8 +6,8 @@ ghost use Rattle.std.specs.Prelude.{◌≤◌};
 use super::{least, limited};
 use kinds::Stream;
 use kinds::sizes::Sizes;
-use libc::STDOUT_FILENO;
-use words::text::{put, put_number, say, write};
+use system::System;
+use words::text::{To, put, put_number, say, write};
 
 // The number that goes with a kind.
 fn by(kind: u32, dvb: u64, atsc: u64) -> u64 {
@@ -22,13 +22,13 @@ fn units(kind: u32, x: u64) -> u64
 }
 
 // x bytes, in units.
-fn put_units(room: &mut [u8; 4096], from: usize, kind: u32, x: u64) -> usize {
-    let end = put_number(room, from, units(kind, x));
+fn put_units(system: System, room: &mut [u8; 4096], from: usize, kind: u32, x: u64) -> usize {
+    let end = put_number(system, room, from, units(kind, x));
     if kind == Stream::DVB {
         return end;
     }
-    let point = put(room, end, b".");
-    put_number(room, point, x % 5 * 2)
+    let point = put(system, room, end, b".");
+    put_number(system, room, point, x % 5 * 2)
 }
 
 // Where byte i comes out, counted from the burst's first.
@@ -37,49 +37,51 @@ fn across(kind: u32, at: u32, i: u32) -> u64 {
 }
 
 // A stroke for each byte: through the channel, to its place, through the output.
-fn strokes(kind: u32, at: u32, n: u32) {
+fn strokes(system: System, kind: u32, at: u32, n: u32) {
     let mut room = [0u8; 4096];
     let mut end = 0;
     let mut i = 0;
     while i < n {
-        end = put(&mut room, end, b"M");
-        end = put_units(&mut room, end, kind, i as u64);
-        end = put(&mut room, end, b" 0v100L");
-        end = put_units(&mut room, end, kind, across(kind, at, i));
-        end = put(&mut room, end, b" 350v100");
+        end = put(system, &mut room, end, b"M");
+        end = put_units(system, &mut room, end, kind, i as u64);
+        end = put(system, &mut room, end, b" 0v100L");
+        end = put_units(system, &mut room, end, kind, across(kind, at, i));
+        end = put(system, &mut room, end, b" 350v100");
         i += 1;
     }
-    words::text::flush(&room, end);
+    words::text::flush(system, &room, end);
 }
 
 // The place of each byte, between `before` and `behind` where it stands.
-fn places(kind: u32, at: u32, n: u32, before: &[u8], behind: &[u8]) {
+fn places(system: System, kind: u32, at: u32, n: u32, before: &[u8], behind: &[u8]) {
     let mut room = [0u8; 4096];
     let mut end = 0;
     let mut i = 0;
     while i < n {
-        end = put(&mut room, end, before);
-        end = put_units(&mut room, end, kind, across(kind, at, i));
-        end = put(&mut room, end, behind);
-        end = put_number(&mut room, end, channel::place(kind, at, i));
-        end = put(&mut room, end, b"</text>");
+        end = put(system, &mut room, end, before);
+        end = put_units(system, &mut room, end, kind, across(kind, at, i));
+        end = put(system, &mut room, end, behind);
+        end = put_number(system, &mut room, end, channel::place(kind, at, i));
+        end = put(system, &mut room, end, b"</text>");
         i += 1;
     }
-    words::text::flush(&room, end);
+    words::text::flush(system, &room, end);
 }
 
 // The places below the strokes. ATSC's stand closer, and theirs are turned upright.
-fn numbers(kind: u32, at: u32, n: u32) {
+fn numbers(system: System, kind: u32, at: u32, n: u32) {
     write(
-        STDOUT_FILENO,
+        system,
+        To::Output,
         b"<g font-family=\"sans-serif\" fill=\"#444\" font-size=\"36\"",
     );
     if kind == Stream::DVB {
-        write(STDOUT_FILENO, b" text-anchor=\"middle\">");
-        places(kind, at, n, b"<text x=\"", b"\" y=\"490\">");
+        write(system, To::Output, b" text-anchor=\"middle\">");
+        places(system, kind, at, n, b"<text x=\"", b"\" y=\"490\">");
     } else {
-        write(STDOUT_FILENO, b">");
+        write(system, To::Output, b">");
         places(
+            system,
             kind,
             at,
             n,
@@ -87,58 +89,61 @@ fn numbers(kind: u32, at: u32, n: u32) {
             b" 465)rotate(90)\" y=\"13\">",
         );
     }
-    write(STDOUT_FILENO, b"</g>\n");
+    write(system, To::Output, b"</g>\n");
 }
 
 // A bar across the picture.
-fn bar(top: u64, width: u64) {
+fn bar(system: System, top: u64, width: u64) {
     say(
-        STDOUT_FILENO,
+        system,
+        To::Output,
         b"<rect fill=\"#fff\" stroke=\"#999\" stroke-width=\"4\" x=\"-5\" height=\"100\" y=\"",
         top,
     );
-    say(STDOUT_FILENO, b"\" width=\"", width);
-    write(STDOUT_FILENO, b"\"/>\n");
+    say(system, To::Output, b"\" width=\"", width);
+    write(system, To::Output, b"\"/>\n");
 }
 
 // The burst's bytes, in words.
-fn bytes(at: u32, n: u32)
+fn bytes(system: System, at: u32, n: u32)
     requires { (1 ≤ n) × (n ≤ 1024) }
 {
     let from = at as u64;
     if n > 1 {
-        say(STDOUT_FILENO, b"bytes ", from);
-        say(STDOUT_FILENO, b" to ", from + n as u64 - 1);
+        say(system, To::Output, b"bytes ", from);
+        say(system, To::Output, b" to ", from + n as u64 - 1);
         return;
     }
-    say(STDOUT_FILENO, b"byte ", from);
+    say(system, To::Output, b"byte ", from);
 }
 
 // What the two bars are.
-fn captions(kind: u32, at: u32, n: u32)
+fn captions(system: System, kind: u32, at: u32, n: u32)
     requires { (1 ≤ n) × (n ≤ 1024) }
 {
     write(
-        STDOUT_FILENO,
+        system,
+        To::Output,
         b"<g font-family=\"sans-serif\" fill=\"#444\" font-size=\"50\"><text y=\"-30\">channel: ",
     );
-    bytes(at, n);
-    say(STDOUT_FILENO, b"</text><text y=\"", by(kind, 560, 700));
-    write(STDOUT_FILENO, b"\">out of the deinterleaver: ");
-    least(kind, at, n);
-    write(STDOUT_FILENO, b"</text></g>\n");
+    bytes(system, at, n);
+    say(system, To::Output, b"</text><text y=\"", by(kind, 560, 700));
+    write(system, To::Output, b"\">out of the deinterleaver: ");
+    least(system, kind, at, n);
+    write(system, To::Output, b"</text></g>\n");
 }
 
 // The title.
-fn title(kind: u32) {
-    write(STDOUT_FILENO, b"<title>");
+fn title(system: System, kind: u32) {
+    write(system, To::Output, b"<title>");
     if kind == Stream::DVB {
-        write(STDOUT_FILENO, b"DVB");
+        write(system, To::Output, b"DVB");
     } else {
-        write(STDOUT_FILENO, b"ATSC");
+        write(system, To::Output, b"ATSC");
     }
     write(
-        STDOUT_FILENO,
+        system,
+        To::Output,
         b": a burst in the channel, and where its bytes come out of the deinterleaver</title>\n",
     );
 }
@@ -150,38 +155,40 @@ fn longest_delay(kind: u32) -> u64
     Sizes::of(kind).store as u64 * 2
 }
 
-fn head(kind: u32, at: u32, n: u32)
+fn head(system: System, kind: u32, at: u32, n: u32)
     requires { (1 ≤ n) × (n ≤ 1024) }
 {
     let width = units(kind, n as u64 + longest_delay(kind));
     say(
-        STDOUT_FILENO,
+        system,
+        To::Output,
         b"<svg xmlns=\"http://www.w3.org/2000/svg\" width=\"640\" height=\"",
         by(kind, 190, 230),
     );
-    say(STDOUT_FILENO, b"\" viewBox=\"-110 -100 ", width + 220);
-    say(STDOUT_FILENO, b" ", by(kind, 700, 840));
-    write(STDOUT_FILENO, b"\">\n");
-    title(kind);
-    bar(0, width + 10);
-    bar(350, width + 10);
-    captions(kind, at, n);
+    say(system, To::Output, b"\" viewBox=\"-110 -100 ", width + 220);
+    say(system, To::Output, b" ", by(kind, 700, 840));
+    write(system, To::Output, b"\">\n");
+    title(system, kind);
+    bar(system, 0, width + 10);
+    bar(system, 350, width + 10);
+    captions(system, kind, at, n);
 }
 
 // `picture dvb burst` and `picture atsc burst`. The places are told where strokes are few, so that none stands closer than the proved distance, and
 // the numbers short.
-pub fn picture(kind: u32, at: u32, length: u32) {
+pub fn picture(system: System, kind: u32, at: u32, length: u32) {
     let n = limited(length);
-    head(kind, at, n);
+    head(system, kind, at, n);
     if (n as usize <= Sizes::of(kind).branches) & (at < 1000000) {
-        numbers(kind, at, n);
+        numbers(system, kind, at, n);
     }
     say(
-        STDOUT_FILENO,
+        system,
+        To::Output,
         b"<path fill=\"none\" stroke=\"#046\" stroke-width=\"",
         by(kind, 6, 3),
     );
-    write(STDOUT_FILENO, b"\" d=\"");
-    strokes(kind, at, n);
-    write(STDOUT_FILENO, b"\"/>\n</svg>\n");
+    write(system, To::Output, b"\" d=\"");
+    strokes(system, kind, at, n);
+    write(system, To::Output, b"\"/>\n</svg>\n");
 }

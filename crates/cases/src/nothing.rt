@@ -4,6 +4,7 @@ use kinds::Stream;
 use kinds::sizes::Sizes;
 use laws::Way;
 use streams::{Answer, Said};
+use system::System;
 
 // The record after a start and a feed of the input. (A refused start gives one of kind 0, which every feed refuses.)
 fn fed(kind: u32, way: Way, store: &mut [u8], input: &[u8], out: &mut [u8]) -> Stream {
@@ -13,41 +14,42 @@ fn fed(kind: u32, way: Way, store: &mut [u8], input: &[u8], out: &mut [u8]) -> S
     got.stream
 }
 
-fn tell_kind(kind: u32) {
+fn tell_kind(system: System, kind: u32) {
     if kind == Stream::DVB {
-        words::text(b"DVB ");
+        words::text(system, b"DVB ");
     } else {
-        words::text(b"ATSC ");
+        words::text(system, b"ATSC ");
     }
 }
 
 // What a feed from record s says.
-fn tell_next(got: Answer, s: Stream) {
+fn tell_next(system: System, got: Answer, s: Stream) {
     let said = got.said;
     let next = got.stream;
     match said {
-        Said::Refused(k) => words::number(b": refused ", k as u64),
+        Said::Refused(k) => words::number(system, b": refused ", k as u64),
         Said::Done => {
             let before = s.places;
             let after = next.places;
-            words::number(b": done, branch ", s.branch as u64);
-            words::number(b" moved to ", next.branch as u64);
-            words::number(b", places moved ", looks::moved(&before, &after));
+            words::number(system, b": done, branch ", s.branch as u64);
+            words::number(system, b" moved to ", next.branch as u64);
+            words::number(system, b", places moved ", looks::moved(&before, &after));
         }
     }
 }
 
-fn tell_fed(way: Way, got: Answer, s: Stream, bytes: u64, changed: u64) {
-    tell_kind(s.kind);
-    words::either(way, b"interleaver", b"deinterleaver");
-    words::text(b", feed of nothing into nothing");
-    tell_next(got, s);
-    words::number(b", ", bytes);
-    words::last(b" bytes; store bytes changed ", changed);
+fn tell_fed(system: System, way: Way, got: Answer, s: Stream, bytes: u64, changed: u64) {
+    tell_kind(system, s.kind);
+    words::either(system, way, b"interleaver", b"deinterleaver");
+    words::text(system, b", feed of nothing into nothing");
+    tell_next(system, got, s);
+    words::number(system, b", ", bytes);
+    words::last(system, b" bytes; store bytes changed ", changed);
 }
 
 // A feed of nothing, after a start and a feed of the input; a second store had the same but for the feed of nothing.
 fn feed_nothing(
+    system: System,
     kind: u32,
     way: Way,
     store: &mut [u8],
@@ -61,6 +63,7 @@ fn feed_nothing(
     fed(kind, way, second, input, out);
     let got = streams::feed(way, s, store, &nothing, &mut nowhere);
     tell_fed(
+        system,
         way,
         got,
         s,
@@ -70,18 +73,26 @@ fn feed_nothing(
 }
 
 // The same in stores of the kind's length.
-fn in_rooms(kind: u32, way: Way, input: &[u8], out: &mut [u8]) {
+fn in_rooms(system: System, kind: u32, way: Way, input: &[u8], out: &mut [u8]) {
     let mut room = [0u8; Stream::ATSC_STORE];
     let mut second = [0u8; Stream::ATSC_STORE];
     let n = Sizes::of(kind).store;
-    feed_nothing(kind, way, &mut room[..n], &mut second[..n], input, out);
+    feed_nothing(
+        system,
+        kind,
+        way,
+        &mut room[..n],
+        &mut second[..n],
+        input,
+        out,
+    );
 }
 
-pub fn feeds(kind: u32, way: Way) {
+pub fn feeds(system: System, kind: u32, way: Way) {
     let none = [7u8; 0];
     let some = [7u8; 53];
     let mut a = [0u8; 0];
     let mut b = [0u8; 53];
-    in_rooms(kind, way, &none, &mut a);
-    in_rooms(kind, way, &some, &mut b);
+    in_rooms(system, kind, way, &none, &mut a);
+    in_rooms(system, kind, way, &some, &mut b);
 }

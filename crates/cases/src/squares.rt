@@ -3,6 +3,7 @@ use super::looks::MARK;
 use super::{show_one, show_walk, test_set, walk_five};
 use laws::Way;
 use sets::{Factors, Set};
+use system::System;
 
 fn factors(first: u32, second: u32) -> Factors {
     Factors {
@@ -46,39 +47,39 @@ fn strayed() -> Set {
 }
 
 // The tests of f1 and f2: 11 after 16, and 10 after 11. 5 divides 40 and not 8; 5 divides 40 and 5; 520 is no size.
-pub fn test_factors() {
-    test_set(lte_set(40, 3, 10));
-    test_set(lte_set(6144, 263, 480));
-    test_set(lte_set(40, 0, 10));
-    test_set(lte_set(40, 3, 0));
-    test_set(lte_set(40, 40, 10));
-    test_set(lte_set(40, 3, 40));
-    test_set(lte_set(40, 0, 8));
-    test_set(lte_set(40, 3, 8));
-    test_set(lte_set(40, 5, 10));
-    test_set(lte_set(520, 3, 10));
-    test_set(strayed());
-    test_set(unread());
+pub fn test_factors(system: System) {
+    test_set(system, lte_set(40, 3, 10));
+    test_set(system, lte_set(6144, 263, 480));
+    test_set(system, lte_set(40, 0, 10));
+    test_set(system, lte_set(40, 3, 0));
+    test_set(system, lte_set(40, 40, 10));
+    test_set(system, lte_set(40, 3, 40));
+    test_set(system, lte_set(40, 0, 8));
+    test_set(system, lte_set(40, 3, 8));
+    test_set(system, lte_set(40, 5, 10));
+    test_set(system, lte_set(520, 3, 10));
+    test_set(system, strayed());
+    test_set(system, unread());
 }
 
-fn walk_seven(set: Set, cell: u32) {
+fn walk_seven(system: System, set: Set, cell: u32) {
     let mut slots = [MARK; 7];
-    show_walk(Way::Interleaver, set, cell, &mut slots);
+    show_walk(system, Way::Interleaver, set, cell, &mut slots);
 }
 
 // K 40 with 3 and 10, by hand: 3·t + 10·t² is 0, 13, 46, 99, 172 for t from 0 to 4, and modulo 40 that is 0, 13, 6, 19, 12. From cell 7: 3·7 + 10·49 is
 // 511, which leaves 31; then 664, 837 and 1,030 leave 24, 37 and 30.
-pub fn show_squares() {
+pub fn show_squares(system: System) {
     let lte = lte_set(40, 3, 10);
-    walk_five(Way::Interleaver, lte, 0);
-    walk_seven(lte, 7);
-    walk_five(Way::Interleaver, lte, 38);
-    walk_five(Way::Interleaver, lte, 40);
-    walk_five(Way::Interleaver, lte, 41);
-    walk_five(Way::Deinterleaver, lte, 0);
-    walk_five(Way::Interleaver, lte_set(40, 3, 8), 41);
-    show_one(Way::Interleaver, lte, 4);
-    show_one(Way::Deinterleaver, lte, 12);
-    show_one(Way::Deinterleaver, lte, 40);
-    show_one(Way::Interleaver, lte_set(6144, 263, 480), 6143);
+    walk_five(system, Way::Interleaver, lte, 0);
+    walk_seven(system, lte, 7);
+    walk_five(system, Way::Interleaver, lte, 38);
+    walk_five(system, Way::Interleaver, lte, 40);
+    walk_five(system, Way::Interleaver, lte, 41);
+    walk_five(system, Way::Deinterleaver, lte, 0);
+    walk_five(system, Way::Interleaver, lte_set(40, 3, 8), 41);
+    show_one(system, Way::Interleaver, lte, 4);
+    show_one(system, Way::Deinterleaver, lte, 12);
+    show_one(system, Way::Deinterleaver, lte, 40);
+    show_one(system, Way::Interleaver, lte_set(6144, 263, 480), 6143);
 }

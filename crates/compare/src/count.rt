@@ -1,7 +1,7 @@
 // What was compared, and what differed. `weight` is of what the library itself gave: each address, or byte, times its place, from 1. It tells a
 // comparison that looked at nothing, or at something else, whatever the differences are.
 use crate::num::sum;
-use libc::STDOUT_FILENO;
+use system::System;
 
 #[derive(Clone, Copy)]
 pub struct Count {
@@ -53,38 +53,40 @@ impl Count {
     }
 }
 
-pub fn number(text: &[u8], n: u64) {
-    io::write_all(STDOUT_FILENO, text);
-    io::print_decimal(STDOUT_FILENO, n);
+pub fn number(system: System, text: &[u8], n: u64) {
+    let _ = system.print(text);
+    let mut digits = [0u8; 20];
+    let k = io::decimal(n, &mut digits);
+    let _ = system.print(&digits[..k]);
 }
 
 // A line for walks.
-pub fn walks_line(title: &[u8], c: Count) {
-    io::write_all(STDOUT_FILENO, title);
-    number(b": sets ", c.sets);
-    number(b" calls ", c.calls);
-    number(b" addresses ", c.addresses);
-    number(b" cells ", c.cells);
-    number(b" padding ", c.padding);
-    number(b" weight ", c.weight);
-    number(b" differences ", c.differences);
-    io::write_all(STDOUT_FILENO, b"\n");
+pub fn walks_line(system: System, title: &[u8], c: Count) {
+    let _ = system.print(title);
+    number(system, b": sets ", c.sets);
+    number(system, b" calls ", c.calls);
+    number(system, b" addresses ", c.addresses);
+    number(system, b" cells ", c.cells);
+    number(system, b" padding ", c.padding);
+    number(system, b" weight ", c.weight);
+    number(system, b" differences ", c.differences);
+    let _ = system.print(b"\n");
 }
 
 // A line for blocks and single addresses, which have no cells.
-pub fn short_line(title: &[u8], c: Count) {
-    io::write_all(STDOUT_FILENO, title);
-    number(b": sets ", c.sets);
-    number(b" calls ", c.calls);
-    number(b" addresses ", c.addresses);
-    number(b" weight ", c.weight);
-    number(b" differences ", c.differences);
-    io::write_all(STDOUT_FILENO, b"\n");
+pub fn short_line(system: System, title: &[u8], c: Count) {
+    let _ = system.print(title);
+    number(system, b": sets ", c.sets);
+    number(system, b" calls ", c.calls);
+    number(system, b" addresses ", c.addresses);
+    number(system, b" weight ", c.weight);
+    number(system, b" differences ", c.differences);
+    let _ = system.print(b"\n");
 }
 
-pub fn last_line(n: u64) {
-    number(b"differences ", n);
-    io::write_all(STDOUT_FILENO, b"\n");
+pub fn last_line(system: System, n: u64) {
+    number(system, b"differences ", n);
+    let _ = system.print(b"\n");
 }
 
 // How many sets were tried, how many of them were accepted, and at how many the test gave another number than trying.
@@ -115,10 +117,10 @@ impl Tried {
 }
 
 // A line for the test of sets.
-pub fn tried_line(title: &[u8], t: Tried) {
-    io::write_all(STDOUT_FILENO, title);
-    number(b": sets ", t.sets);
-    number(b" accepted ", t.accepted);
-    number(b" differences ", t.differences);
-    io::write_all(STDOUT_FILENO, b"\n");
+pub fn tried_line(system: System, title: &[u8], t: Tried) {
+    let _ = system.print(title);
+    number(system, b": sets ", t.sets);
+    number(system, b" accepted ", t.accepted);
+    number(system, b" differences ", t.differences);
+    let _ = system.print(b"\n");
 }

@@ -3,6 +3,7 @@ use crate::chosen::{four, quadratic_set, verdict};
 use crate::count;
 use crate::count::Tried;
 use second::squares::shares;
+use system::System;
 
 // The number that the test of a set gives, with f1 and f2 exchanged where that is wrong on purpose.
 fn given(k: u32, f1: u32, f2: u32, exchanged: bool) -> u32 {
@@ -54,9 +55,9 @@ fn each(exchanged: bool, seen: &mut [u16]) -> Tried {
 }
 
 // A line for all of them; with f1 and f2 exchanged for the test, what is counted is in no total.
-pub fn show(title: &[u8], exchanged: bool) -> u64 {
+pub fn show(system: System, title: &[u8], exchanged: bool) -> u64 {
     let mut seen = [0u16; 128];
     let t = each(exchanged, &mut seen);
-    count::tried_line(title, t);
+    count::tried_line(system, title, t);
     t.differences
 }

@@ -2,8 +2,8 @@
 // that was listed is the least not below. Going up, it is the greatest below, which is wrong on purpose.
 use crate::count::number;
 use crate::num::sum;
-use libc::STDOUT_FILENO;
 use sets::{Refusal, Set, Verdict};
+use system::System;
 
 // The size that was listed last; how many were refused with 3, how many of these carried 0, what they carried in all, and at how many refusals it was
 // another size than expected.
@@ -101,13 +101,13 @@ fn each(up: bool) -> Run {
 }
 
 // A line for all of them; what is counted going up is not in the program's last line.
-pub fn show(title: &[u8], up: bool) -> u64 {
+pub fn show(system: System, title: &[u8], up: bool) -> u64 {
     let r = each(up);
-    io::write_all(STDOUT_FILENO, title);
-    number(b": sizes ", r.sizes);
-    number(b" none ", r.none);
-    number(b" total ", r.total);
-    number(b" differences ", r.differences);
-    io::write_all(STDOUT_FILENO, b"\n");
+    let _ = system.print(title);
+    number(system, b": sizes ", r.sizes);
+    number(system, b" none ", r.none);
+    number(system, b" total ", r.total);
+    number(system, b" differences ", r.differences);
+    let _ = system.print(b"\n");
     r.differences
 }

@@ -5,6 +5,7 @@ use crate::count;
 use crate::count::Tried;
 use second::couples::shares;
 use sets::Factors;
+use system::System;
 
 // One of the seven numbers for P1, P2 and P3.
 fn seven(n: u32, digit: u32) -> u32 {
@@ -87,9 +88,9 @@ fn each(exchanged: bool, seen: &mut [u16]) -> Tried {
 }
 
 // A line for all of them; with P1 and P2 exchanged for the test, what is counted is in no total.
-pub fn show(title: &[u8], exchanged: bool) -> u64 {
+pub fn show(system: System, title: &[u8], exchanged: bool) -> u64 {
     let mut seen = [0u16; 64];
     let t = each(exchanged, &mut seen);
-    count::tried_line(title, t);
+    count::tried_line(system, title, t);
     t.differences
 }

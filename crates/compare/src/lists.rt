@@ -7,6 +7,7 @@ use laws::Way;
 use second::Whole;
 use second::num::move_on;
 use sets::Set;
+use system::System;
 
 // How a list is made: right; or wrong on purpose, one place off, without the exchange at full rectangles, with no stream turned, with t for t², with
 // P1 in the third case, or with the even-numbered couples swapped.
@@ -114,23 +115,24 @@ pub fn walk_each(
     c
 }
 
-pub fn walks_of(way: Way, title: &[u8], choice: u32, size: usize) -> u64 {
+pub fn walks_of(system: System, way: Way, title: &[u8], choice: u32, size: usize) -> u64 {
     let mut list = [0u16; 12288];
     let mut slice = [0u16; 6144];
     let c = walk_each(way, choice, size, Made::Right, &mut list, &mut slice);
-    count::walks_line(title, c);
+    count::walks_line(system, title, c);
     c.differences
 }
 
 // Every set of a choice, whole and in slices.
-pub fn every(way: Way, choice: u32, whole: &[u8], sliced: &[u8]) -> u64 {
-    let a = walks_of(way, whole, choice, 0);
-    let b = walks_of(way, sliced, choice, 1024);
+pub fn every(system: System, way: Way, choice: u32, whole: &[u8], sliced: &[u8]) -> u64 {
+    let a = walks_of(system, way, whole, choice, 0);
+    let b = walks_of(system, way, sliced, choice, 1024);
     sum(a, b)
 }
 
-pub fn every_l() -> u64 {
+pub fn every_l(system: System) -> u64 {
     every(
+        system,
         Way::Interleaver,
         0,
         b"L of profiles 1 to 4, whole",
@@ -138,8 +140,9 @@ pub fn every_l() -> u64 {
     )
 }
 
-pub fn every_m() -> u64 {
+pub fn every_m(system: System) -> u64 {
     every(
+        system,
         Way::Deinterleaver,
         0,
         b"M of profiles 1 to 4, whole",
@@ -148,15 +151,16 @@ pub fn every_m() -> u64 {
 }
 
 // Profiles 6 and 7, whole and in slices that cut before, at and after the place where a turned list begins again.
-fn every_spatial(way: Way, whole: &[u8], ones: &[u8], sevens: &[u8]) -> u64 {
-    let a = walks_of(way, whole, 3, 0);
-    let b = walks_of(way, ones, 3, 1);
-    let c = walks_of(way, sevens, 3, 7);
+fn every_spatial(system: System, way: Way, whole: &[u8], ones: &[u8], sevens: &[u8]) -> u64 {
+    let a = walks_of(system, way, whole, 3, 0);
+    let b = walks_of(system, way, ones, 3, 1);
+    let c = walks_of(system, way, sevens, 3, 7);
     sum(a, sum(b, c))
 }
 
-pub fn every_spatial_l() -> u64 {
+pub fn every_spatial_l(system: System) -> u64 {
     every_spatial(
+        system,
         Way::Interleaver,
         b"L of profiles 6 and 7, whole",
         b"L of profiles 6 and 7, slices of 1",
@@ -164,8 +168,9 @@ pub fn every_spatial_l() -> u64 {
     )
 }
 
-pub fn every_spatial_m() -> u64 {
+pub fn every_spatial_m(system: System) -> u64 {
     every_spatial(
+        system,
         Way::Deinterleaver,
         b"M of profiles 6 and 7, whole",
         b"M of profiles 6 and 7, slices of 1",
@@ -174,8 +179,9 @@ pub fn every_spatial_m() -> u64 {
 }
 
 // The sizes of LTE with its own factors, whole and in slices.
-pub fn every_lte() -> u64 {
+pub fn every_lte(system: System) -> u64 {
     let a = every(
+        system,
         Way::Interleaver,
         4,
         b"L of profile 8, whole",
@@ -183,16 +189,28 @@ pub fn every_lte() -> u64 {
     );
     sum(
         a,
-        walks_of(Way::Interleaver, b"L of profile 8, slices of 7", 4, 7),
+        walks_of(
+            system,
+            Way::Interleaver,
+            b"L of profile 8, slices of 7",
+            4,
+            7,
+        ),
     )
 }
 
 // Profile 9 with many numbers, and each of its sizes, whole and in slices.
-pub fn every_couple() -> u64 {
+pub fn every_couple(system: System) -> u64 {
     let way = Way::Interleaver;
-    let a = walks_of(way, b"L of profile 9, N 24 to 64, whole", 5, 0);
-    let b = walks_of(way, b"L of profile 9, N 24 to 64, slices of 7", 5, 7);
-    let c = walks_of(way, b"L of profile 9, every N, whole", 6, 0);
-    let d = walks_of(way, b"L of profile 9, every N, slices of 7", 6, 7);
+    let a = walks_of(system, way, b"L of profile 9, N 24 to 64, whole", 5, 0);
+    let b = walks_of(
+        system,
+        way,
+        b"L of profile 9, N 24 to 64, slices of 7",
+        5,
+        7,
+    );
+    let c = walks_of(system, way, b"L of profile 9, every N, whole", 6, 0);
+    let d = walks_of(system, way, b"L of profile 9, every N, slices of 7", 6, 7);
     sum(sum(a, b), sum(c, d))
 }

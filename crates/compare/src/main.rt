@@ -26,6 +26,7 @@ use count::Count;
 use laws::Way;
 use lists::{Made, list_of, symbols_of, walks_of};
 use num::sum;
+use system::System;
 
 // Two blocks for each set, of low bytes and of high.
 fn blocks_one(i: u32, made: Made, list: &mut [u16]) -> Count {
@@ -47,10 +48,10 @@ fn blocks_each(list: &mut [u16]) -> Count {
     c
 }
 
-fn blocks_of(title: &[u8]) -> u64 {
+fn blocks_of(system: System, title: &[u8]) -> u64 {
     let mut list = [0u16; 12288];
     let c = blocks_each(&mut list);
-    count::short_line(title, c);
+    count::short_line(system, title, c);
     c.differences
 }
 
@@ -70,88 +71,125 @@ fn singles_each(list: &mut [u16]) -> Count {
     c
 }
 
-fn singles_of(title: &[u8]) -> u64 {
+fn singles_of(system: System, title: &[u8]) -> u64 {
     let mut list = [0u16; 12288];
     let c = singles_each(&mut list);
-    count::short_line(title, c);
+    count::short_line(system, title, c);
     c.differences
 }
 
-fn eighteen_walks() -> u64 {
-    let a = walks_of(Way::Interleaver, b"L of eighteen, slices of 1", 2, 1);
-    let b = walks_of(Way::Interleaver, b"L of eighteen, slices of 7", 2, 7);
-    let c = walks_of(Way::Interleaver, b"L of eighteen, slices of 137", 2, 137);
+fn eighteen_walks(system: System) -> u64 {
+    let a = walks_of(
+        system,
+        Way::Interleaver,
+        b"L of eighteen, slices of 1",
+        2,
+        1,
+    );
+    let b = walks_of(
+        system,
+        Way::Interleaver,
+        b"L of eighteen, slices of 7",
+        2,
+        7,
+    );
+    let c = walks_of(
+        system,
+        Way::Interleaver,
+        b"L of eighteen, slices of 137",
+        2,
+        137,
+    );
     sum(a, sum(b, c))
 }
 
-fn eighteen_moves() -> u64 {
-    let a = blocks_of(b"blocks of bytes of eighteen, there and back");
-    let b = singles_of(b"single addresses of eighteen, there and back");
+fn eighteen_moves(system: System) -> u64 {
+    let a = blocks_of(system, b"blocks of bytes of eighteen, there and back");
+    let b = singles_of(system, b"single addresses of eighteen, there and back");
     sum(a, b)
 }
 
-fn wrong_block(i: u32, made: Made, title: &[u8]) {
+fn wrong_block(system: System, i: u32, made: Made, title: &[u8]) {
     let mut list = [0u16; 12288];
     let c = blocks_one(i, made, &mut list);
-    count::short_line(title, c);
+    count::short_line(system, title, c);
 }
 
-fn wrong_blocks() {
-    wrong_block(0, Made::Off, b"wrong on purpose, a block of K 40");
+fn wrong_blocks(system: System) {
+    wrong_block(system, 0, Made::Off, b"wrong on purpose, a block of K 40");
     wrong_block(
+        system,
         32,
         Made::SwappedEven,
         b"wrong on purpose, a block of 24 couples with the even-numbered swapped",
     );
 }
 
-fn wrong_singles() {
+fn wrong_singles(system: System) {
     let mut list = [0u16; 12288];
     let c = singles_one(0, Made::Off, &mut list);
-    count::short_line(b"wrong on purpose, single addresses of K 40", c);
+    count::short_line(system, b"wrong on purpose, single addresses of K 40", c);
 }
 
-fn main() {
-    let carriers = sum(lists::every_l(), lists::every_m());
+fn main(rt: HostRuntime) {
+    let system = System::of(rt);
+    let carriers = sum(lists::every_l(system), lists::every_m(system));
     let turbos = lists::every(
+        system,
         Way::Interleaver,
         1,
         b"L of profile 5, whole",
         b"L of profile 5, slices of 1024",
     );
-    let spatials = sum(lists::every_spatial_l(), lists::every_spatial_m());
-    let listed = lists::every_lte();
+    let spatials = sum(
+        lists::every_spatial_l(system),
+        lists::every_spatial_m(system),
+    );
+    let listed = lists::every_lte(system);
     let pairs = decided::show(
+        system,
         b"the test of f1 and f2 against all positions tried, profile 8, K 40 to 128",
         false,
     );
     let lte = sum(listed, pairs);
-    let coupled = lists::every_couple();
+    let coupled = lists::every_couple(system);
     let fours = fours::show(
+        system,
         b"the test of P0 to P3 against all outputs tried, profile 9, N 24 to 64",
         false,
     );
     let wimax = sum(coupled, fours);
     let fitting = fitted::show(
+        system,
         b"the size that refusal 3 carries against all sizes gone through, profiles 0 to 10, bits 0 to 7, N 0 to 6200",
         false,
     );
     let reported = report::show(
+        system,
         b"the padding report against what is counted over the lists, every K of profile 5 and 290 totals",
         0,
     );
-    let eighteen = sum(eighteen_walks(), eighteen_moves());
-    wrong::one_off();
-    wrong_blocks();
-    wrong_singles();
-    wrong::walks();
-    decided::show(b"wrong on purpose, the test of f2 and f1", true);
-    fours::show(b"wrong on purpose, the test of P0, P2, P1 and P3", true);
-    fitted::show(b"wrong on purpose, the greatest listed size below", true);
+    let eighteen = sum(eighteen_walks(system), eighteen_moves(system));
+    wrong::one_off(system);
+    wrong_blocks(system);
+    wrong_singles(system);
+    wrong::walks(system);
+    decided::show(system, b"wrong on purpose, the test of f2 and f1", true);
+    fours::show(
+        system,
+        b"wrong on purpose, the test of P0, P2, P1 and P3",
+        true,
+    );
+    fitted::show(
+        system,
+        b"wrong on purpose, the greatest listed size below",
+        true,
+    );
     report::show(
+        system,
         b"wrong on purpose, the padding report against the lists of the next sizes",
         1,
     );
     let lists = sum(sum(sum(carriers, turbos), spatials), sum(lte, wimax));
-    count::last_line(sum(sum(sum(lists, fitting), reported), eighteen));
+    count::last_line(system, sum(sum(sum(lists, fitting), reported), eighteen));
 }

@@ -7,6 +7,7 @@ use crate::num::{differ, sum, weigh};
 use laws::Way;
 use second::num::plus;
 use second::{Sides, Whole};
+use system::System;
 use wcdma_report::{Figures, Reported, Summed, Totals};
 
 // The figures of one K; each weighs itself times K + 1. Addresses, cells and padding are counted from the list.
@@ -96,8 +97,8 @@ fn each(off: u32) -> Count {
 }
 
 // A line for all of them; what is counted against other lists is not in the program's last line.
-pub fn show(title: &[u8], off: u32) -> u64 {
+pub fn show(system: System, title: &[u8], off: u32) -> u64 {
     let c = each(off);
-    count::walks_line(title, c);
+    count::walks_line(system, title, c);
     c.differences
 }

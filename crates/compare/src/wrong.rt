@@ -3,9 +3,10 @@ use crate::chosen::turbo_set;
 use crate::count;
 use crate::lists::{Made, walk_each, walk_one};
 use laws::Way;
+use system::System;
 
 // K 40 against its list one place off.
-pub fn one_off() {
+pub fn one_off(system: System) {
     let mut list = [0u16; 12288];
     let mut slice = [0u16; 6144];
     let c = walk_one(
@@ -16,45 +17,50 @@ pub fn one_off() {
         &mut list,
         &mut slice,
     );
-    count::walks_line(b"wrong on purpose, L of K 40", c);
+    count::walks_line(system, b"wrong on purpose, L of K 40", c);
 }
 
 // Every set of a choice.
-fn against(way: Way, choice: u32, made: Made, title: &[u8]) {
+fn against(system: System, way: Way, choice: u32, made: Made, title: &[u8]) {
     let mut list = [0u16; 12288];
     let mut slice = [0u16; 6144];
     let c = walk_each(way, choice, 0, made, &mut list, &mut slice);
-    count::walks_line(title, c);
+    count::walks_line(system, title, c);
 }
 
 // Every K against its list without the exchange: the sizes that it touches, each at two addresses. L and M of profiles 6 and 7 against the lists with
 // no stream turned: the sets that are. L of profile 8 with t for t². L of every N of profile 9 with P1 in the third case: a quarter of its addresses.
-pub fn walks() {
+pub fn walks(system: System) {
     against(
+        system,
         Way::Interleaver,
         1,
         Made::Unexchanged,
         b"wrong on purpose, L of profile 5 without the exchange, the sizes that it touches",
     );
     against(
+        system,
         Way::Interleaver,
         3,
         Made::Unturned,
         b"wrong on purpose, L of profiles 6 and 7 not turned, the sets that are",
     );
     against(
+        system,
         Way::Deinterleaver,
         3,
         Made::Unturned,
         b"wrong on purpose, M of profiles 6 and 7 not turned, the sets that are",
     );
     against(
+        system,
         Way::Interleaver,
         4,
         Made::Unsquared,
         b"wrong on purpose, L of profile 8 with t for its square",
     );
     against(
+        system,
         Way::Interleaver,
         6,
         Made::Misprinted,

@@ -16,7 +16,7 @@ use bursts::Seen;
 use closed::Path;
 use kinds::Stream;
 use laws::Way;
-use libc::STDOUT_FILENO;
+use system::System;
 use tally::Tally;
 
 fn plus(a: u64, b: u64) -> u64 {
@@ -48,37 +48,39 @@ fn branch(b: Begun) -> usize {
     0
 }
 
-fn text(words: &[u8]) {
-    io::write_all(STDOUT_FILENO, words);
+fn text(system: System, words: &[u8]) {
+    let _ = system.print(words);
 }
 
-fn number(words: &[u8], n: u64) {
-    text(words);
-    io::print_decimal(STDOUT_FILENO, n);
+fn number(system: System, words: &[u8], n: u64) {
+    text(system, words);
+    let mut digits = [0u8; 20];
+    let k = io::decimal(n, &mut digits);
+    let _ = system.print(&digits[..k]);
 }
 
-fn name(kind: u32) {
+fn name(system: System, kind: u32) {
     if kind == 1 {
-        text(b"DVB");
+        text(system, b"DVB");
     } else {
-        text(b"ATSC");
+        text(system, b"ATSC");
     }
 }
 
-fn report(way: Way, t: Tally, checksum: u64, differences: u64) {
+fn report(system: System, way: Way, t: Tally, checksum: u64, differences: u64) {
     match way {
-        Way::Interleaver => text(b"interleaver"),
-        Way::Deinterleaver => text(b"deinterleaver"),
+        Way::Interleaver => text(system, b"interleaver"),
+        Way::Deinterleaver => text(system, b"deinterleaver"),
     }
-    number(b" calls ", t.calls);
-    number(b" refused 7 ", t.seven);
-    number(b" 9 ", t.nine);
-    number(b" 6 ", t.six);
-    number(b" other ", t.other);
-    number(b" bytes ", t.bytes);
-    number(b" checksum ", checksum);
-    number(b" differences ", differences);
-    text(b"\n");
+    number(system, b" calls ", t.calls);
+    number(system, b" refused 7 ", t.seven);
+    number(system, b" 9 ", t.nine);
+    number(system, b" 6 ", t.six);
+    number(system, b" other ", t.other);
+    number(system, b" bytes ", t.bytes);
+    number(system, b" checksum ", checksum);
+    number(system, b" differences ", differences);
+    text(system, b"\n");
 }
 
 // The number of a machine's first call: each is cut in its own way.
@@ -117,27 +119,27 @@ fn feed(way: Way, b: Begun, from: usize, input: &[u8], out: &mut [u8]) -> Tally 
 }
 
 // One machine; what comes out is compared with what its input makes due.
-fn machine(way: Way, b: Begun, input: &[u8], out: &mut [u8]) {
+fn machine(system: System, way: Way, b: Begun, input: &[u8], out: &mut [u8]) {
     let tally = feed(way, b, first_call(way), input, out);
     let wrong = closed::differences(b.kind, path(way), branch(b), input, out, b.f);
-    report(way, tally, closed::checksum(out), wrong);
+    report(system, way, tally, closed::checksum(out), wrong);
 }
 
 // Both machines, the deinterleaver cut in its own way; what comes back is compared with what went in, too.
-fn both(b: Begun) {
+fn both(system: System, b: Begun) {
     let mut input = [0u8; 40000];
     let mut sent = [0u8; 40000];
     let mut back = [0u8; 40000];
     closed::samples(&mut input);
-    machine(Way::Interleaver, b, &input, &mut sent);
-    machine(Way::Deinterleaver, b, &sent, &mut back);
+    machine(system, Way::Interleaver, b, &input, &mut sent);
+    machine(system, Way::Deinterleaver, b, &sent, &mut back);
     let wrong = closed::differences(b.kind, Path::Both, branch(b), &input, &back, b.f);
-    number(b"there and back differences ", wrong);
-    text(b"\n");
+    number(system, b"there and back differences ", wrong);
+    text(system, b"\n");
 }
 
 // Both machines of a kind from a start, and from the middle.
-fn both_begun(kind: u32) {
+fn both_begun(system: System, kind: u32) {
     let start = Begun {
         kind,
         middle: false,
@@ -148,13 +150,17 @@ fn both_begun(kind: u32) {
         middle: true,
         f: 60,
     };
-    name(kind);
-    text(b" from a start\n");
-    both(start);
-    name(kind);
-    number(b" from the middle, at branch ", branch(middle) as u64);
-    text(b"\n");
-    both(middle);
+    name(system, kind);
+    text(system, b" from a start\n");
+    both(system, start);
+    name(system, kind);
+    number(
+        system,
+        b" from the middle, at branch ",
+        branch(middle) as u64,
+    );
+    text(system, b"\n");
+    both(system, middle);
 }
 
 // A burst of n bytes from byte `at` on through a deinterleaver, and what is found of it.
@@ -174,7 +180,7 @@ fn burst(kind: u32, at: usize, n: usize, seen: Seen) -> Seen
 }
 
 // Bursts of n bytes, from each byte of two turns on.
-fn spread(kind: u32, n: usize) {
+fn spread(system: System, kind: u32, n: usize) {
     let mut seen = Seen::none();
     let end = standards::branches(kind) * 2;
     let mut at = 0;
@@ -182,23 +188,24 @@ fn spread(kind: u32, n: usize) {
         seen = burst(kind, at, n, seen);
         at += 1;
     }
-    tell_spread(kind, n, seen);
+    tell_spread(system, kind, n, seen);
 }
 
-fn tell_spread(kind: u32, n: usize, seen: Seen) {
-    name(kind);
-    number(b" bursts of ", n as u64);
-    number(b" found ", seen.found);
-    number(b" not at their place ", seen.wrong);
-    number(b" least distance ", seen.nearest);
-    text(b"\n");
+fn tell_spread(system: System, kind: u32, n: usize, seen: Seen) {
+    name(system, kind);
+    number(system, b" bursts of ", n as u64);
+    number(system, b" found ", seen.found);
+    number(system, b" not at their place ", seen.wrong);
+    number(system, b" least distance ", seen.nearest);
+    text(system, b"\n");
 }
 
-fn main() {
-    both_begun(1);
-    both_begun(2);
-    spread(1, 12);
-    spread(1, 13);
-    spread(2, 52);
-    spread(2, 53);
+fn main(rt: HostRuntime) {
+    let system = System::of(rt);
+    both_begun(system, 1);
+    both_begun(system, 2);
+    spread(system, 1, 12);
+    spread(system, 1, 13);
+    spread(system, 2, 52);
+    spread(system, 2, 53);
 }

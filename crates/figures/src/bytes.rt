@@ -1,45 +1,49 @@
 // The bytes of a file that an argument names. Whatever fails is said, with the path.
 use super::Got;
-use libc::STDERR_FILENO;
 use lines::append;
+use std::io::Error;
+use system::System;
 
-fn fail_first(room: &[u8; lines::ROOM], n: usize) {
-    os::fail(lines::first(room, n));
+fn fail_first(system: System, room: &[u8; lines::ROOM], n: usize, e: Error) {
+    system.fail(lines::first(room, n), e);
 }
 
 // Says what failed at a path, of which some 490 bytes are told.
-fn fail(what: &[u8], path: &[u8]) {
+fn fail(system: System, what: &[u8], path: &[u8], e: Error) {
     let mut room = [0u8; lines::ROOM];
     let mut at = append(&mut room, 0, what);
     at = append(&mut room, at, path);
-    fail_first(&room, at);
+    fail_first(system, &room, at, e);
+}
+
+// Says that an argument is no path.
+fn unnamed(system: System) -> Got {
+    let _ = system.tell(b"interleaver: expected FILE, a path of 1 to 1,024 bytes\n");
+    Got::Failed
 }
 
 // Reads the file at a path, as far as there is room.
-fn read_path(path: &[u8], room: &mut [u8]) -> Got {
-    match files::read_path(path, room) {
+fn read_path(system: System, path: &[u8], room: &mut [u8]) -> Got {
+    match files::read_path(system, path, room) {
         files::Got::Of(k) => Got::Of(k),
-        files::Got::Unread => {
-            fail(b"interleaver: reading ", path);
+        files::Got::Unread(e) => {
+            fail(system, b"interleaver: reading ", path, e);
             Got::Failed
         }
-        _ => {
-            fail(b"interleaver: opening ", path);
+        files::Got::Unopened(e) => {
+            fail(system, b"interleaver: opening ", path, e);
             Got::Failed
         }
+        files::Got::Unnamed => unnamed(system),
     }
 }
 
 // Reads the file that argument i names, as far as there is room.
-pub(super) fn read(i: usize, room: &mut [u8]) -> Got {
+pub(super) fn read(system: System, i: usize, room: &mut [u8]) -> Got {
     let mut path = [0u8; files::PATH];
-    let k = os::arg(i, &mut path);
+    let k = system.arg(i, &mut path);
     if k == 0 {
-        io::write_all(
-            STDERR_FILENO,
-            b"interleaver: expected FILE, a path of 1 to 1,024 bytes\n",
-        );
-        return Got::Failed;
+        return unnamed(system);
     }
-    read_path(&path[..k], room)
+    read_path(system, &path[..k], room)
 }

@@ -8,6 +8,7 @@ mod values; // values.rt: the values of a reception, and which are there
 ghost use Rattle.std.specs.Prelude.{◌≡◌, min, ◌≤◌};
 
 use sets::Set;
+use system::System;
 
 // The values of a file that are looked at, and their bytes: at most one more than the largest table holds.
 pub const VALUES: usize = 6145;
@@ -43,6 +44,7 @@ fn decoded(
 // The reception in the file that argument i names: its values, which of them are there, and how many came, of which no more is looked at than tells whether
 // they are too many. Whatever fails is said.
 pub fn reception(
+    system: System,
     set: Set,
     i: usize,
     received: &mut [f32; VALUES],
@@ -51,7 +53,7 @@ pub fn reception(
     let mut bytes = [0u8; BYTES];
     let n = size_of(set);
     let most = 4 * n + 4;
-    match bytes::read(i, &mut bytes[..most]) {
+    match bytes::read(system, i, &mut bytes[..most]) {
         Got::Failed => Got::Failed,
         Got::Of(k) => decoded(values::count(k, n), &bytes, received, present),
     }

@@ -6,5 +6,5 @@ use Rattle.files.specs.declared.Got.TheVariants.{Of, Unnamed, Unopened, Unread}
 abbrev pub Within : Got → ℕ → Type 0
 Within (Of k) room = k ≤ room
 Within Unnamed room = Unit {0}
-Within Unopened room = Unit {0}
-Within Unread room = Unit {0}
+Within (Unopened e) room = Unit {0}
+Within (Unread e) room = Unit {0}

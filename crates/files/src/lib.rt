@@ -4,6 +4,10 @@
 ghost use Rattle.std.specs.Prelude.{length};
 ghost use Rattle.files.specs.Got.{Within};
 
+use std::fs::File;
+use std::io::{Error, Read};
+use system::System;
+
 // A path has at most so many bytes.
 pub const PATH: usize = 1024;
 
@@ -12,50 +16,49 @@ pub const PATH: usize = 1024;
 pub enum Got {
     Of(usize),
     Unnamed,
-    Unopened,
-    Unread,
+    Unopened(Error),
+    Unread(Error),
 }
 
 // Reads until the room is full or the file ends, as far as no read fails.
-fn read_full(fd: i32, room: &mut [u8]) -> Got
+fn read_full(file: &mut File, room: &mut [u8]) -> Got
     ensures { Within result (length room.old) }
 {
     let mut at = 0;
     while at < room.len() {
-        let got = libc::read(fd, &mut room[at..]);
-        if got < 0 {
-            return Got::Unread;
+        match file.read(&mut room[at..]) {
+            Err(e) => {
+                return Got::Unread(e);
+            }
+            Ok(0) => {
+                return Got::Of(at);
+            }
+            Ok(k) => {
+                at += k;
+            }
         }
-        let k = io::count(got, &room[at..]);
-        if k == 0 {
-            return Got::Of(at);
-        }
-        at += k;
     }
     Got::Of(at)
 }
 
-// Reads the file at a path, as far as there is room. (What failed is in errno then.)
-pub fn read_path(path: &[u8], room: &mut [u8]) -> Got
+// Reads the file at a path, as far as there is room.
+pub fn read_path(system: System, path: &[u8], room: &mut [u8]) -> Got
     ensures { Within result (length room.old) }
 {
-    let fd = os::open_read(path);
-    if fd < 0 {
-        return Got::Unopened;
+    match system.open(path) {
+        Err(e) => Got::Unopened(e),
+        Ok(mut file) => read_full(&mut file, room),
     }
-    let got = read_full(fd, room);
-    libc::close(fd);
-    got
 }
 
 // Reads the file that argument i names, as far as there is room.
-pub fn read(i: usize, room: &mut [u8]) -> Got
+pub fn read(system: System, i: usize, room: &mut [u8]) -> Got
     ensures { Within result (length room.old) }
 {
     let mut path = [0u8; PATH];
-    let k = os::arg(i, &mut path);
+    let k = system.arg(i, &mut path);
     if k == 0 {
         return Got::Unnamed;
     }
-    read_path(&path[..k], room)
+    read_path(system, &path[..k], room)
 }

@@ -8,24 +8,27 @@ pub mod streamed; // streamed.rt: a byte stream, in whatever lengths reads give
 
 ghost use Rattle.io.specs.Counts.{IsPrefixLen};
 
-use libc::{STDERR_FILENO, STDIN_FILENO, STDOUT_FILENO};
+use system::System;
+use words::text::To;
 
-fn refused(number: u32, size: u32) {
-    words::text::say_refusal(STDERR_FILENO, number, size);
+fn refused(system: System, number: u32, size: u32) {
+    words::text::say_refusal(system, To::Errors, number, size);
 }
 
 // Writes a part of the output. Answers whether it could.
-fn write_out(out: &[u8]) -> bool {
-    words::text::write(STDOUT_FILENO, out)
+fn write_out(system: System, out: &[u8]) -> bool {
+    words::text::write(system, To::Output, out)
 }
 
 // Reads once, in whatever length the read gives: 0 at the end of the input, and where the read fails, which is said.
-fn read_some(room: &mut [u8]) -> usize
+fn read_some(system: System, room: &mut [u8]) -> usize
     ensures { IsPrefixLen result room.new }
 {
-    let got = libc::read(STDIN_FILENO, room);
-    if got < 0 {
-        os::fail(b"interleaver: reading");
+    match system.read(room) {
+        Ok(n) => n,
+        Err(e) => {
+            system.fail(b"interleaver: reading", e);
+            0
+        }
     }
-    io::count(got, room)
 }

@@ -4,6 +4,7 @@ use kinds::Stream;
 use kinds::sizes::Sizes;
 use laws::Way;
 use streams::Said;
+use system::System;
 
 // How a turn ended: whether to go on, and the record.
 #[derive(Clone, Copy)]
@@ -17,25 +18,39 @@ fn stopped(stream: Stream) -> Going {
 }
 
 // Passes what came through the machine, and writes it.
-fn send(way: Way, s: Stream, store: &mut [u8], input: &[u8], out: &mut [u8]) -> Going {
+fn send(
+    system: System,
+    way: Way,
+    s: Stream,
+    store: &mut [u8],
+    input: &[u8],
+    out: &mut [u8],
+) -> Going {
     let answer = streams::feed(way, s, store, input, out);
     let said = answer.said;
     let stream = answer.stream;
     match said {
         Said::Done => Going {
-            on: write_out(out),
+            on: write_out(system, out),
             stream,
         },
         Said::Refused(number) => {
-            refused(number, 0);
+            refused(system, number, 0);
             stopped(stream)
         }
     }
 }
 
 // Reads once, and passes on what came.
-fn turn(way: Way, s: Stream, store: &mut [u8], room: &mut [u8], out: &mut [u8]) -> Going {
-    let n = read_some(room);
+fn turn(
+    system: System,
+    way: Way,
+    s: Stream,
+    store: &mut [u8],
+    room: &mut [u8],
+    out: &mut [u8],
+) -> Going {
+    let n = read_some(system, room);
     if n == 0 {
         return stopped(s);
     }
@@ -43,10 +58,17 @@ fn turn(way: Way, s: Stream, store: &mut [u8], room: &mut [u8], out: &mut [u8]) 
     if n > out.len() {
         return stopped(s);
     }
-    send(way, s, store, &room[..n], &mut out[..n])
+    send(system, way, s, store, &room[..n], &mut out[..n])
 }
 
-fn turns(way: Way, first: Stream, store: &mut [u8], room: &mut [u8], out: &mut [u8]) {
+fn turns(
+    system: System,
+    way: Way,
+    first: Stream,
+    store: &mut [u8],
+    room: &mut [u8],
+    out: &mut [u8],
+) {
     let mut now = Going {
         on: true,
         stream: first,
@@ -54,34 +76,34 @@ fn turns(way: Way, first: Stream, store: &mut [u8], room: &mut [u8], out: &mut [
     let mut left = u64::MAX;
     while left > 0 && now.on {
         left -= 1;
-        now = turn(way, now.stream, store, room, out);
+        now = turn(system, way, now.stream, store, room, out);
     }
 }
 
 // The stream through a machine in a store of its kind's length.
-fn started(way: Way, kind: u32, fill: u8, store: &mut [u8]) {
+fn started(system: System, way: Way, kind: u32, fill: u8, store: &mut [u8]) {
     let mut room = io::large_buffer();
     let mut out = io::large_buffer();
     let answer = streams::start(kind, store, fill);
     let said = answer.said;
     match said {
-        Said::Done => turns(way, answer.stream, store, &mut room, &mut out),
-        Said::Refused(number) => refused(number, 0),
+        Said::Done => turns(system, way, answer.stream, store, &mut room, &mut out),
+        Said::Refused(number) => refused(system, number, 0),
     }
 }
 
 // The same, with the store in the first bytes of a room, which has as many as any kind takes.
-fn in_room(way: Way, kind: u32, fill: u8, room: &mut [u8]) {
+fn in_room(system: System, way: Way, kind: u32, fill: u8, room: &mut [u8]) {
     let n = Sizes::of(kind).store;
     // (never so)
     if n > room.len() {
         return;
     }
-    started(way, kind, fill, &mut room[..n]);
+    started(system, way, kind, fill, &mut room[..n]);
 }
 
 // `dvb interleave`, `atsc interleave` and the way back of each: the output is as long as the input.
-pub fn through(way: Way, kind: u32, fill: u8) {
+pub fn through(system: System, way: Way, kind: u32, fill: u8) {
     let mut room = [0u8; Stream::ATSC_STORE];
-    in_room(way, kind, fill, &mut room);
+    in_room(system, way, kind, fill, &mut room);
 }

@@ -5,6 +5,7 @@ use lte::Given;
 use named::among;
 use numbers::Number;
 use sets::{Factors, Set};
+use system::System;
 
 // P0 to P3 of the request's own block of 24 couples. Of other sizes none are kept.
 const OF_24: Factors = Factors {
@@ -35,21 +36,21 @@ pub enum BurstAsked {
     Wrong,
 }
 
-fn wrong(name: &[u8], most: &[u8], got: &[u8]) {
-    told::say(b"interleaver: expected ");
-    told::say(name);
-    told::say(b", a decimal number of 1 to 10 digits up to ");
-    told::say(most);
-    told::say(b", not ");
-    told::say(got);
-    told::say(b"\n");
+fn wrong(system: System, name: &[u8], most: &[u8], got: &[u8]) {
+    told::say(system, b"interleaver: expected ");
+    told::say(system, name);
+    told::say(system, b", a decimal number of 1 to 10 digits up to ");
+    told::say(system, most);
+    told::say(system, b", not ");
+    told::say(system, got);
+    told::say(system, b"\n");
 }
 
 // The number that some digits say, by its name; they stand in a word, which is told.
-pub fn read(digits: &[u8], name: &[u8], word: &[u8]) -> Number {
+pub fn read(system: System, digits: &[u8], name: &[u8], word: &[u8]) -> Number {
     let n = numbers::read(digits);
     if let Number::Wrong = n {
-        wrong(name, b"4294967295", word);
+        wrong(system, name, b"4294967295", word);
     }
     n
 }
@@ -60,20 +61,27 @@ pub fn plain(line: &[u8], i: usize) -> &[u8] {
 }
 
 // The number that it says, by its name.
-pub fn number(line: &[u8], i: usize, name: &[u8]) -> Number {
+pub fn number(system: System, line: &[u8], i: usize, name: &[u8]) -> Number {
     let w = plain(line, i);
-    read(w, name, w)
+    read(system, w, name, w)
 }
 
 // The same, where it may not be above 255 or some other most, which `digits` spells.
-pub fn small_number(line: &[u8], i: usize, name: &[u8], most: u32, digits: &[u8]) -> Number {
+pub fn small_number(
+    system: System,
+    line: &[u8],
+    i: usize,
+    name: &[u8],
+    most: u32,
+    digits: &[u8],
+) -> Number {
     let n = numbers::read(plain(line, i));
     if let Number::Value(v) = n {
         if v <= most {
             return n;
         }
     }
-    wrong(name, digits, plain(line, i));
+    wrong(system, name, digits, plain(line, i));
     Number::Wrong
 }
 
@@ -86,18 +94,18 @@ fn standard(n: u32) -> Factors {
 }
 
 // f1 and f2 that are named, together; or, where neither is, LTE's own for the size.
-fn pair(line: &[u8], n: u32) -> FactorsAsked {
+fn pair(system: System, line: &[u8], n: u32) -> FactorsAsked {
     if !(names::has(line, b"f1") | names::has(line, b"f2")) {
         return FactorsAsked::Given(standard(n));
     }
     if !(names::has(line, b"f1") & names::has(line, b"f2")) {
-        told::alone(b"f1", b"f2");
+        told::alone(system, b"f1", b"f2");
         return FactorsAsked::Wrong;
     }
-    let Number::Value(first) = names::number(line, b"f1", 0) else {
+    let Number::Value(first) = names::number(system, line, b"f1", 0) else {
         return FactorsAsked::Wrong;
     };
-    let Number::Value(second) = names::number(line, b"f2", 0) else {
+    let Number::Value(second) = names::number(system, line, b"f2", 0) else {
         return FactorsAsked::Wrong;
     };
     FactorsAsked::Given(Factors {
@@ -109,12 +117,12 @@ fn pair(line: &[u8], n: u32) -> FactorsAsked {
 }
 
 // P0 to P3 where none is named: those that profile 9 has for N 24, and none for a profile that does not read them.
-fn own_four(set: Set) -> FactorsAsked {
+fn own_four(system: System, set: Set) -> FactorsAsked {
     if !sets::is_coupled(set) {
         return FactorsAsked::Given(sets::NO_FACTORS);
     }
     if set.n != 24 {
-        told::needs_four();
+        told::needs_four(system);
         return FactorsAsked::Wrong;
     }
     FactorsAsked::Given(OF_24)
@@ -131,17 +139,17 @@ fn has_all(line: &[u8]) -> bool {
         & (names::has(line, b"p2") & names::has(line, b"p3"))
 }
 
-fn named_four(line: &[u8]) -> FactorsAsked {
-    let Number::Value(first) = names::number(line, b"p0", 0) else {
+fn named_four(system: System, line: &[u8]) -> FactorsAsked {
+    let Number::Value(first) = names::number(system, line, b"p0", 0) else {
         return FactorsAsked::Wrong;
     };
-    let Number::Value(second) = names::number(line, b"p1", 0) else {
+    let Number::Value(second) = names::number(system, line, b"p1", 0) else {
         return FactorsAsked::Wrong;
     };
-    let Number::Value(third) = names::number(line, b"p2", 0) else {
+    let Number::Value(third) = names::number(system, line, b"p2", 0) else {
         return FactorsAsked::Wrong;
     };
-    let Number::Value(fourth) = names::number(line, b"p3", 0) else {
+    let Number::Value(fourth) = names::number(system, line, b"p3", 0) else {
         return FactorsAsked::Wrong;
     };
     FactorsAsked::Given(Factors {
@@ -153,20 +161,20 @@ fn named_four(line: &[u8]) -> FactorsAsked {
 }
 
 // P0 to P3 that are named, all four; or, where none is, those that are known.
-fn four(line: &[u8], set: Set) -> FactorsAsked {
+fn four(system: System, line: &[u8], set: Set) -> FactorsAsked {
     if !has_any(line) {
-        return own_four(set);
+        return own_four(system, set);
     }
     if !has_all(line) {
-        told::some_of_four();
+        told::some_of_four(system);
         return FactorsAsked::Wrong;
     }
-    named_four(line)
+    named_four(system, line)
 }
 
 // A set that has f1 and f2, and P0 to P3 in their place where its profile reads those.
-fn with_four(line: &[u8], set: Set) -> SetAsked {
-    let FactorsAsked::Given(factors) = four(line, set) else {
+fn with_four(system: System, line: &[u8], set: Set) -> SetAsked {
+    let FactorsAsked::Given(factors) = four(system, line, set) else {
         return SetAsked::Wrong;
     };
     if !sets::is_coupled(set) {
@@ -182,27 +190,28 @@ fn with_four(line: &[u8], set: Set) -> SetAsked {
 }
 
 // PROFILE, which is word 1, BITS, N and the numbers that have names.
-pub fn set(line: &[u8]) -> SetAsked {
+pub fn set(system: System, line: &[u8]) -> SetAsked {
     let w = word(line, 1);
-    let Number::Value(profile) = read(w, b"PROFILE", w) else {
+    let Number::Value(profile) = read(system, w, b"PROFILE", w) else {
         return SetAsked::Wrong;
     };
-    let Number::Value(bits) = number(line, 2, b"BITS") else {
+    let Number::Value(bits) = number(system, line, 2, b"BITS") else {
         return SetAsked::Wrong;
     };
-    let Number::Value(n) = number(line, 3, b"N") else {
+    let Number::Value(n) = number(system, line, 3, b"N") else {
         return SetAsked::Wrong;
     };
-    if !names::all_known(line) {
+    if !names::all_known(system, line) {
         return SetAsked::Wrong;
     }
-    let Number::Value(stream) = names::number(line, b"stream", 1) else {
+    let Number::Value(stream) = names::number(system, line, b"stream", 1) else {
         return SetAsked::Wrong;
     };
-    let FactorsAsked::Given(factors) = pair(line, n) else {
+    let FactorsAsked::Given(factors) = pair(system, line, n) else {
         return SetAsked::Wrong;
     };
     with_four(
+        system,
         line,
         Set {
             profile,
@@ -215,15 +224,16 @@ pub fn set(line: &[u8]) -> SetAsked {
 }
 
 // AT, which is word i, and LENGTH, which is word k.
-pub fn burst(line: &[u8], i: usize, k: usize) -> BurstAsked {
-    let Number::Value(at) = number(line, i, b"AT") else {
+pub fn burst(system: System, line: &[u8], i: usize, k: usize) -> BurstAsked {
+    let Number::Value(at) = number(system, line, i, b"AT") else {
         return BurstAsked::Wrong;
     };
-    let Number::Value(length) = small_number(line, k, b"LENGTH", bursts::LONGEST, b"1024") else {
+    let Number::Value(length) = small_number(system, line, k, b"LENGTH", bursts::LONGEST, b"1024")
+    else {
         return BurstAsked::Wrong;
     };
     if length == 0 {
-        told::expected(b"LENGTH from 1 to 1024, the bytes of a burst");
+        told::expected(system, b"LENGTH from 1 to 1024, the bytes of a burst");
         return BurstAsked::Wrong;
     }
     BurstAsked::Given { at, length }

@@ -11,6 +11,7 @@ use kinds::sizes::Sizes;
 use laws::Way;
 use lines::{ROOM, word};
 use numbers::Number;
+use system::System;
 use told::Command;
 use words::line::Line;
 
@@ -18,157 +19,157 @@ use words::line::Line;
 const MOST: usize = 8;
 
 // What a question on a set answers.
-fn answer(c: Command, line: &[u8]) {
-    let SetAsked::Given(set) = asked::set(line) else {
+fn answer(system: System, c: Command, line: &[u8]) {
+    let SetAsked::Given(set) = asked::set(system, line) else {
         return;
     };
     match c {
-        Command::Test => pages::lists::test(set),
-        Command::List => pages::lists::list(Way::Interleaver, set),
-        Command::Back => pages::lists::list(Way::Deinterleaver, set),
-        Command::Picture => pages::picture::picture(set),
+        Command::Test => pages::lists::test(system, set),
+        Command::List => pages::lists::list(system, Way::Interleaver, set),
+        Command::Back => pages::lists::list(system, Way::Deinterleaver, set),
+        Command::Picture => pages::picture::picture(system, set),
         Command::At => {
-            if let Number::Value(t) = asked::number(line, 4, b"T") {
-                pages::lists::one(Way::Interleaver, set, t);
+            if let Number::Value(t) = asked::number(system, line, 4, b"T") {
+                pages::lists::one(system, Way::Interleaver, set, t);
             }
         }
         Command::To => {
-            if let Number::Value(k) = asked::number(line, 4, b"K") {
-                pages::lists::one(Way::Deinterleaver, set, k);
+            if let Number::Value(k) = asked::number(system, line, 4, b"K") {
+                pages::lists::one(system, Way::Deinterleaver, set, k);
             }
         }
-        _ => walk(set, line),
+        _ => walk(system, set, line),
     }
 }
 
-fn walk(set: sets::Set, line: &[u8]) {
-    let Number::Value(cell) = asked::number(line, 4, b"CELL") else {
+fn walk(system: System, set: sets::Set, line: &[u8]) {
+    let Number::Value(cell) = asked::number(system, line, 4, b"CELL") else {
         return;
     };
-    let Number::Value(room) = asked::number(line, 5, b"ROOM") else {
+    let Number::Value(room) = asked::number(system, line, 5, b"ROOM") else {
         return;
     };
-    pages::lists::walk(set, cell, room);
+    pages::lists::walk(system, set, cell, room);
 }
 
 // Blocks of symbols, standard input to output.
-fn move_blocks(way: Way, line: &[u8]) {
-    let SetAsked::Given(set) = asked::set(line) else {
+fn move_blocks(system: System, way: Way, line: &[u8]) {
+    let SetAsked::Given(set) = asked::set(system, line) else {
         return;
     };
     if asked::plain(line, 4).len() == 0 {
-        filters::blocked::through(way, set, 1);
+        filters::blocked::through(system, way, set, 1);
         return;
     }
-    let Number::Value(width) = asked::small_number(line, 4, b"WIDTH", 8, b"8") else {
+    let Number::Value(width) = asked::small_number(system, line, 4, b"WIDTH", 8, b"8") else {
         return;
     };
     if width == 0 {
-        told::expected(b"WIDTH from 1 to 8, the bytes of a symbol");
+        told::expected(system, b"WIDTH from 1 to 8, the bytes of a symbol");
         return;
     }
-    filters::blocked::through(way, set, width);
+    filters::blocked::through(system, way, set, width);
 }
 
 // A byte stream, standard input to output.
-fn move_stream(kind: u32, line: &[u8]) {
+fn move_stream(system: System, kind: u32, line: &[u8]) {
     match commands::named(word(line, 1)) {
-        Command::Interleave => fill_stream(Way::Interleaver, kind, line),
-        Command::Deinterleave => fill_stream(Way::Deinterleaver, kind, line),
-        _ => told::usage(Command::Stream(kind)),
+        Command::Interleave => fill_stream(system, Way::Interleaver, kind, line),
+        Command::Deinterleave => fill_stream(system, Way::Deinterleaver, kind, line),
+        _ => told::usage(system, Command::Stream(kind)),
     }
 }
 
-fn fill_stream(way: Way, kind: u32, line: &[u8]) {
-    let Number::Value(fill) = asked::small_number(line, 2, b"FILL", 255, b"255") else {
+fn fill_stream(system: System, way: Way, kind: u32, line: &[u8]) {
+    let Number::Value(fill) = asked::small_number(system, line, 2, b"FILL", 255, b"255") else {
         return;
     };
     // (never so: asked again for the cast)
     if fill > 255 {
         return;
     }
-    filters::streamed::through(way, kind, fill as u8);
+    filters::streamed::through(system, way, kind, fill as u8);
 }
 
 // A burst in the channel as a table.
-fn show_burst(kind: u32, line: &[u8]) {
-    if let BurstAsked::Given { at, length } = asked::burst(line, 2, 3) {
-        bursts::page::table(kind, at, length);
+fn show_burst(system: System, kind: u32, line: &[u8]) {
+    if let BurstAsked::Given { at, length } = asked::burst(system, line, 2, 3) {
+        bursts::page::table(system, kind, at, length);
     }
 }
 
 // The same as a picture, whose numbers may be left out: then it is of a byte in each branch.
-fn draw_burst(kind: u32, line: &[u8]) {
+fn draw_burst(system: System, kind: u32, line: &[u8]) {
     if asked::plain(line, 3).len() == 0 {
-        bursts::picture::picture(kind, 0, Sizes::of(kind).branches as u32);
+        bursts::picture::picture(system, kind, 0, Sizes::of(kind).branches as u32);
         return;
     }
-    if let BurstAsked::Given { at, length } = asked::burst(line, 3, 4) {
-        bursts::picture::picture(kind, at, length);
+    if let BurstAsked::Given { at, length } = asked::burst(system, line, 3, 4) {
+        bursts::picture::picture(system, kind, at, length);
     }
 }
 
 // LTE's own factors for a size.
-fn show_factors(line: &[u8]) {
-    if let Number::Value(k) = asked::number(line, 1, b"K") {
-        pages::lists::factors(k);
+fn show_factors(system: System, line: &[u8]) {
+    if let Number::Value(k) = asked::number(system, line, 1, b"K") {
+        pages::lists::factors(system, k);
     }
 }
 
 // Receptions from files, added up. The line is that of the arguments before the files and of the named words.
-fn combine() {
+fn combine(system: System) {
     let mut room = [0u8; ROOM];
-    let n = words::arguments::join(&mut room, receptions::BEFORE);
-    combine_first(&room, n);
+    let n = words::arguments::join(system, &mut room, receptions::BEFORE);
+    combine_first(system, &room, n);
 }
 
-fn combine_first(room: &[u8; ROOM], n: usize) {
-    combine_by(lines::first(room, n));
+fn combine_first(system: System, room: &[u8; ROOM], n: usize) {
+    combine_by(system, lines::first(room, n));
 }
 
-fn combine_by(line: &[u8]) {
-    if !(commands::in_form(Command::Combine, line) & receptions::in_form()) {
-        told::usage(Command::Combine);
+fn combine_by(system: System, line: &[u8]) {
+    if !(commands::in_form(Command::Combine, line) & receptions::in_form(system)) {
+        told::usage(system, Command::Combine);
         return;
     }
-    if let SetAsked::Given(set) = asked::set(line) {
-        receptions::from_files(set);
+    if let SetAsked::Given(set) = asked::set(system, line) {
+        receptions::from_files(system, set);
     }
 }
 
 // Answers a question that is in form.
-fn ask(c: Command, line: &[u8]) {
+fn ask(system: System, c: Command, line: &[u8]) {
     match c {
-        Command::Help => told::help(),
-        Command::Profiles => pages::admitted::table(),
-        Command::Burst(kind) => show_burst(kind, line),
-        Command::BurstPicture(kind) => draw_burst(kind, line),
-        Command::Factors => show_factors(line),
-        _ => answer(c, line),
+        Command::Help => told::help(system),
+        Command::Profiles => pages::admitted::table(system),
+        Command::Burst(kind) => show_burst(system, kind, line),
+        Command::BurstPicture(kind) => draw_burst(system, kind, line),
+        Command::Factors => show_factors(system, line),
+        _ => answer(system, c, line),
     }
 }
 
 // Answers each line of standard input. An empty line asks nothing.
-fn answer_lines() {
+fn answer_lines(system: System) {
     let mut room = [0u8; ROOM];
     let mut turns = u64::MAX;
     while turns > 0 {
         turns -= 1;
-        match words::line::read(&mut room) {
+        match words::line::read(system, &mut room) {
             Line::Nothing => {
                 return;
             }
-            Line::Long => told::expected(b"a line shorter than 512 bytes"),
-            Line::Of(n) => answer_first(&room, n),
+            Line::Long => told::expected(system, b"a line shorter than 512 bytes"),
+            Line::Of(n) => answer_first(system, &room, n),
         }
     }
 }
 
-fn answer_first(room: &[u8; ROOM], n: usize) {
-    answer_line(lines::first(room, n));
+fn answer_first(system: System, room: &[u8; ROOM], n: usize) {
+    answer_line(system, lines::first(room, n));
 }
 
-fn answer_line(line: &[u8]) {
+fn answer_line(system: System, line: &[u8]) {
     if word(line, 0).len() == 0 {
         return;
     }
@@ -182,52 +183,53 @@ fn answer_line(line: &[u8]) {
         | Command::Judge
         | Command::Differ
         | Command::Plans
-        | Command::Lines => told::expected(b"a question, as lines answers only those"),
+        | Command::Lines => told::expected(system, b"a question, as lines answers only those"),
         _ => {
             if commands::in_form(c, line) {
-                ask(c, line);
+                ask(system, c, line);
             } else {
-                told::usage(c);
+                told::usage(system, c);
             }
         }
     }
 }
 
 // Does what the arguments say.
-fn obey(line: &[u8]) {
+fn obey(system: System, line: &[u8]) {
     let c = commands::command_of(line);
     if let Command::Combine = c {
-        combine();
+        combine(system);
         return;
     }
     if let Command::Plans = c {
-        if !plan_pages::written::write() {
-            told::usage(Command::Plans);
+        if !plan_pages::written::write(system) {
+            told::usage(system, Command::Plans);
         }
         return;
     }
     if !commands::in_form(c, line) {
-        told::usage(c);
+        told::usage(system, c);
         return;
     }
     match c {
-        Command::Lines => answer_lines(),
-        Command::Interleave => move_blocks(Way::Interleaver, line),
-        Command::Deinterleave => move_blocks(Way::Deinterleaver, line),
-        Command::Stream(kind) => move_stream(kind, line),
-        Command::Padding => report_pages::report(),
-        Command::Judge => plan_pages::judged::judge(2),
-        Command::Differ => plan_pages::compared::differ(2, 3),
-        _ => ask(c, line),
+        Command::Lines => answer_lines(system),
+        Command::Interleave => move_blocks(system, Way::Interleaver, line),
+        Command::Deinterleave => move_blocks(system, Way::Deinterleaver, line),
+        Command::Stream(kind) => move_stream(system, kind, line),
+        Command::Padding => report_pages::report(system),
+        Command::Judge => plan_pages::judged::judge(system, 2),
+        Command::Differ => plan_pages::compared::differ(system, 2, 3),
+        _ => ask(system, c, line),
     }
 }
 
-fn begin(room: &[u8; ROOM], n: usize) {
-    obey(lines::first(room, n));
+fn begin(system: System, room: &[u8; ROOM], n: usize) {
+    obey(system, lines::first(room, n));
 }
 
-fn main() {
+fn main(rt: HostRuntime) {
+    let system = System::of(rt);
     let mut room = [0u8; ROOM];
-    let n = words::arguments::join(&mut room, MOST);
-    begin(&room, n);
+    let n = words::arguments::join(system, &mut room, MOST);
+    begin(system, &room, n);
 }

@@ -4,6 +4,7 @@ use super::asked;
 use check::same;
 use named::{among, name, value};
 use numbers::Number;
+use system::System;
 
 // A name of profile 9's four numbers.
 fn is_of_four(name: &[u8]) -> bool {
@@ -16,7 +17,7 @@ fn is_known(word: &[u8]) -> bool {
 }
 
 // Whether the named words of a line all have names that are known. The first that has not is told.
-pub fn all_known(line: &[u8]) -> bool {
+pub fn all_known(system: System, line: &[u8]) -> bool {
     let mut i = 0;
     while i < line.len() {
         let w = among(line, true, i);
@@ -24,7 +25,7 @@ pub fn all_known(line: &[u8]) -> bool {
             return true;
         }
         if !is_known(w) {
-            told::unknown(w);
+            told::unknown(system, w);
             return false;
         }
         i += 1;
@@ -54,15 +55,15 @@ pub fn has(line: &[u8], of: &[u8]) -> bool {
 }
 
 // The number of a name, or `otherwise` where no word has it. A second word of the name is told.
-pub fn number(line: &[u8], of: &[u8], otherwise: u32) -> Number {
+pub fn number(system: System, line: &[u8], of: &[u8], otherwise: u32) -> Number {
     let i = find(line, of, 0);
     if i >= line.len() {
         return Number::Value(otherwise);
     }
     if find(line, of, i + 1) < line.len() {
-        told::twice(of);
+        told::twice(system, of);
         return Number::Wrong;
     }
     let w = among(line, true, i);
-    asked::read(value(w), of, w)
+    asked::read(system, value(w), of, w)
 }

@@ -2,6 +2,7 @@
 // streams those that it goes by, so the table cannot say anything else than the library does.
 use super::{say, say_number};
 use sets::{Set, Verdict};
+use system::System;
 
 // Sizes that follow each other by one step.
 #[derive(Clone, Copy)]
@@ -43,23 +44,23 @@ impl Row {
     }
 
     // Three sizes or more by their step, fewer one by one.
-    fn show(self) {
-        say_number(b"", self.first as u64);
+    fn show(self, system: System) {
+        say_number(system, b"", self.first as u64);
         if self.count > 2 {
-            say_number(b" to ", self.last as u64);
+            say_number(system, b" to ", self.last as u64);
             if self.step > 1 {
-                say_number(b" by ", self.step as u64);
+                say_number(system, b" by ", self.step as u64);
             }
             return;
         }
         if self.count > 1 {
-            say_number(b", ", self.last as u64);
+            say_number(system, b", ", self.last as u64);
         }
     }
 
     // The row with one more size; where that does not follow by the step, the row is shown and another begins. Above two, it does not matter how
     // many they are.
-    fn with(self, n: u32) -> Self {
+    fn with(self, system: System, n: u32) -> Self {
         let step = if n > self.last { n - self.last } else { 0 };
         if self.count == 1 || (self.count > 1 && step == self.step) {
             return Row {
@@ -70,8 +71,8 @@ impl Row {
             };
         }
         if self.count > 0 {
-            self.show();
-            say(b", ");
+            self.show(system);
+            say(system, b", ");
         }
         Row {
             first: n,
@@ -82,48 +83,52 @@ impl Row {
     }
 }
 
-fn sizes(profile: u32, bits: u32) {
+fn sizes(system: System, profile: u32, bits: u32) {
     let mut row = Row::none();
     let mut n = 1;
     while n <= 6144 {
         if is_listed(profile, bits, n) {
-            row = row.with(n);
+            row = row.with(system, n);
         }
         n += 1;
     }
-    row.show();
+    row.show(system);
 }
 
 // What stands behind the sizes: the factors, where the profile reads any. Zeros are refused with 11 by LTE, and with 10 by couples.
-fn factors(profile: u32, bits: u32) {
+fn factors(system: System, profile: u32, bits: u32) {
     match verdict(profile, bits, 40) {
-        11 => say(b"; with f1 and f2 from 1 to N - 1 that give no two positions one address\n"),
+        11 => say(
+            system,
+            b"; with f1 and f2 from 1 to N - 1 that give no two positions one address\n",
+        ),
         10 => say(
+            system,
             b"; with P0 to P3 from 0 to N - 1 that give no two outputs one couple; N couples are 2N symbols\n",
         ),
-        _ => say(b"\n"),
+        _ => say(system, b"\n"),
     }
 }
 
 // The column of the streams.
-fn streams(last: u32) {
+fn streams(system: System, last: u32) {
     if last > 1 {
-        say_number(b"1 to ", last as u64);
-        say(b"   ");
+        say_number(system, b"1 to ", last as u64);
+        say(system, b"   ");
         return;
     }
-    say(b"1        ");
+    say(system, b"1        ");
 }
 
 // The columns before the sizes: the profile's number and name stand in its first line alone.
-fn front(profile: u32, bits: u32, first: bool) {
+fn front(system: System, profile: u32, bits: u32, first: bool) {
     if first {
-        name(profile);
+        name(system, profile);
     } else {
-        say(b"                                      ");
+        say(system, b"                                      ");
     }
-    say_number(b"", bits as u64);
-    say(b"     ");
+    say_number(system, b"", bits as u64);
+    say(system, b"     ");
     let numbers = sets::numbers_of(Set {
         profile,
         bits,
@@ -131,34 +136,34 @@ fn front(profile: u32, bits: u32, first: bool) {
         stream: 1,
         factors: sets::NO_FACTORS,
     });
-    streams(numbers.streams);
+    streams(system, numbers.streams);
 }
 
-fn name(profile: u32) {
-    say_number(b"", profile as u64);
+fn name(system: System, profile: u32) {
+    say_number(system, b"", profile as u64);
     match profile {
-        1 => say(b"        IEEE 802.16 OFDM             "),
-        2 => say(b"        IEEE 802.16 OFDMA            "),
-        3 => say(b"        IEEE 802.11a                 "),
-        4 => say(b"        bench                        "),
-        5 => say(b"        WCDMA turbo, 3GPP TS 25.212  "),
-        6 => say(b"        IEEE 802.11n, 20 MHz         "),
-        7 => say(b"        IEEE 802.11n, 40 MHz         "),
-        8 => say(b"        LTE turbo, 3GPP TS 36.212    "),
-        9 => say(b"        IEEE 802.16 turbo couples    "),
-        _ => say(b"                                     "),
+        1 => say(system, b"        IEEE 802.16 OFDM             "),
+        2 => say(system, b"        IEEE 802.16 OFDMA            "),
+        3 => say(system, b"        IEEE 802.11a                 "),
+        4 => say(system, b"        bench                        "),
+        5 => say(system, b"        WCDMA turbo, 3GPP TS 25.212  "),
+        6 => say(system, b"        IEEE 802.11n, 20 MHz         "),
+        7 => say(system, b"        IEEE 802.11n, 40 MHz         "),
+        8 => say(system, b"        LTE turbo, 3GPP TS 36.212    "),
+        9 => say(system, b"        IEEE 802.16 turbo couples    "),
+        _ => say(system, b"                                     "),
     }
 }
 
 // The lines of a profile.
-fn profile(p: u32) {
+fn profile(system: System, p: u32) {
     let mut first = true;
     let mut bits = 1;
     while bits <= 8 {
         if verdict(p, bits, 0) > 2 {
-            front(p, bits, first);
-            sizes(p, bits);
-            factors(p, bits);
+            front(system, p, bits, first);
+            sizes(system, p, bits);
+            factors(system, p, bits);
             first = false;
         }
         bits += 1;
@@ -166,12 +171,15 @@ fn profile(p: u32) {
 }
 
 // `profiles`.
-pub fn table() {
-    say(b"profile  standard                     bits  streams  N\n");
+pub fn table(system: System) {
+    say(
+        system,
+        b"profile  standard                     bits  streams  N\n",
+    );
     let mut p = 1;
     while p <= 10 {
         if verdict(p, 0, 0) > 1 {
-            profile(p);
+            profile(system, p);
         }
         p += 1;
     }

@@ -4,78 +4,79 @@ ghost use Rattle.std.specs.Prelude.{◌≤◌};
 
 use super::{LONGEST, say, say_number, wide};
 use laws::Way;
-use libc::STDOUT_FILENO;
 use lte::Given;
 use sets::{Refusal, Set, Verdict};
+use system::System;
 use walks::{Found, Walk, Walked};
+use words::text::To;
 
-pub fn refused(fd: i32, x: Refusal) {
-    words::text::say_refusal(fd, x.number, x.size);
+pub fn refused(system: System, to: To, x: Refusal) {
+    words::text::say_refusal(system, to, x.number, x.size);
 }
 
 // The first n addresses of a slice, one a line.
-fn addresses(slots: &[u16], n: u32) {
+fn addresses(system: System, slots: &[u16], n: u32) {
     let mut room = [0u8; 4096];
     let mut at = 0;
     let mut i = 0;
     while i < slots.len() {
         if i < n as usize {
-            at = words::text::put_number(&mut room, at, wide(slots[i]));
-            at = words::text::put(&mut room, at, b"\n");
+            at = words::text::put_number(system, &mut room, at, wide(slots[i]));
+            at = words::text::put(system, &mut room, at, b"\n");
         }
         i += 1;
     }
-    words::text::flush(&room, at);
+    words::text::flush(system, &room, at);
 }
 
 // A walk's addresses, or its refusal.
-fn walked(w: Walked, slots: &[u16]) {
+fn walked(system: System, w: Walked, slots: &[u16]) {
     match w {
-        Walked::Refused(x) => refused(STDOUT_FILENO, x),
+        Walked::Refused(x) => refused(system, To::Output, x),
         Walked::Done {
             written,
             next: _,
             cells: _,
-        } => addresses(slots, written),
+        } => addresses(system, slots, written),
     }
 }
 
 // `test`: accepted, or the refusal.
-pub fn test(set: Set) {
+pub fn test(system: System, set: Set) {
     match sets::test(set) {
-        Verdict::Refused(x) => refused(STDOUT_FILENO, x),
-        Verdict::Accepted => say(b"accepted\n"),
+        Verdict::Refused(x) => refused(system, To::Output, x),
+        Verdict::Accepted => say(system, b"accepted\n"),
     }
 }
 
 // `factors`: f1 and f2 of a size of LTE.
-pub fn factors(k: u32) {
+pub fn factors(system: System, k: u32) {
     match lte::factors(k) {
-        Given::Refused(x) => refused(STDOUT_FILENO, x),
+        Given::Refused(x) => refused(system, To::Output, x),
         Given::Of(f) => {
-            say_number(b"", f.first as u64);
-            words::text::say_line(STDOUT_FILENO, b" ", f.second as u64);
+            say_number(system, b"", f.first as u64);
+            words::text::say_line(system, To::Output, b" ", f.second as u64);
         }
     }
 }
 
 // `list`, L, and `back`, M: one address a line.
-pub fn list(way: Way, set: Set) {
+pub fn list(system: System, way: Way, set: Set) {
     let mut table = [0u16; LONGEST];
     let w = walks::walk_by(way, Walk { set, cell: 0 }, &mut table);
-    walked(w, &table);
+    walked(system, w, &table);
 }
 
-fn found(f: Found) {
+fn found(system: System, f: Found) {
     match f {
-        Found::Refused(x) => refused(STDOUT_FILENO, x),
-        Found::At(a) => words::text::say_line(STDOUT_FILENO, b"", a as u64),
+        Found::Refused(x) => refused(system, To::Output, x),
+        Found::At(a) => words::text::say_line(system, To::Output, b"", a as u64),
     }
 }
 
 // `at`, L(x), and `to`, M(x).
-pub fn one(way: Way, set: Set, x: u32) {
-    found(walks::address_by(way, set, x));
+pub fn one(system: System, way: Way, set: Set, x: u32) {
+    found(system, walks::address_by(way, set, x));
 }
 
 fn least(a: usize, b: usize) -> usize
@@ -85,24 +86,24 @@ fn least(a: usize, b: usize) -> usize
 }
 
 // A walk into a slice: the addresses, then what it counted.
-fn walk_into(w: Walk, slots: &mut [u16]) {
+fn walk_into(system: System, w: Walk, slots: &mut [u16]) {
     let r = walks::walk_l(w, slots);
-    walked(r, slots);
+    walked(system, r, slots);
     if let Walked::Done {
         written,
         next,
         cells,
     } = r
     {
-        say_number(b"written ", written as u64);
-        say_number(b" next ", next.cell as u64);
-        words::text::say_line(STDOUT_FILENO, b" cells ", cells as u64);
+        say_number(system, b"written ", written as u64);
+        say_number(system, b" next ", next.cell as u64);
+        words::text::say_line(system, To::Output, b" cells ", cells as u64);
     }
 }
 
 // `walk`. No list is longer than LONGEST, so a larger room is as good as one of that length.
-pub fn walk(set: Set, cell: u32, room: u32) {
+pub fn walk(system: System, set: Set, cell: u32, room: u32) {
     let mut table = [0u16; LONGEST];
     let n = least(room as usize, LONGEST);
-    walk_into(Walk { set, cell }, &mut table[..n]);
+    walk_into(system, Walk { set, cell }, &mut table[..n]);
 }

@@ -3,6 +3,7 @@ use super::{ROOM, read, refused};
 use plan_differ::Difference;
 use plan_form::Place;
 use plans::differing::Differed;
+use system::System;
 use words::text;
 use words::text::{put, put_number};
 
@@ -40,58 +41,81 @@ fn behind(d: Difference) -> From {
     }
 }
 
-fn put_place(room: &mut [u8; text::ROOM], from: usize, p: Place) -> usize {
-    let at = put(room, from, b" ");
+fn put_place(system: System, room: &mut [u8; text::ROOM], from: usize, p: Place) -> usize {
+    let at = put(system, room, from, b" ");
     match p {
-        Place::Absent => put(room, at, b"-"),
-        Place::Address(a) => put_number(room, at, a as u64),
+        Place::Absent => put(system, room, at, b"-"),
+        Place::Address(a) => put_number(system, room, at, a as u64),
     }
 }
 
-fn put_plan(room: &mut [u8; text::ROOM], from: usize, plan: u32, what: &[u8]) -> usize {
-    let mut at = put(room, from, b"plan ");
-    at = put_number(room, at, plan as u64);
-    put(room, at, what)
+fn put_plan(
+    system: System,
+    room: &mut [u8; text::ROOM],
+    from: usize,
+    plan: u32,
+    what: &[u8],
+) -> usize {
+    let mut at = put(system, room, from, b"plan ");
+    at = put_number(system, room, at, plan as u64);
+    put(system, room, at, what)
 }
 
-fn put_position(room: &mut [u8; text::ROOM], from: usize, plan: u32, position: u32) -> usize {
-    let mut at = put_plan(room, from, plan, b" at ");
-    at = put_number(room, at, position as u64);
-    put(room, at, b":")
+fn put_position(
+    system: System,
+    room: &mut [u8; text::ROOM],
+    from: usize,
+    plan: u32,
+    position: u32,
+) -> usize {
+    let mut at = put_plan(system, room, from, plan, b" at ");
+    at = put_number(system, room, at, position as u64);
+    put(system, room, at, b":")
 }
 
-fn put_places(room: &mut [u8; text::ROOM], from: usize, left: Place, right: Place) -> usize {
-    let mut at = put_place(room, from, left);
-    at = put_place(room, at, right);
-    put(room, at, b"\n")
+fn put_places(
+    system: System,
+    room: &mut [u8; text::ROOM],
+    from: usize,
+    left: Place,
+    right: Place,
+) -> usize {
+    let mut at = put_place(system, room, from, left);
+    at = put_place(system, room, at, right);
+    put(system, room, at, b"\n")
 }
 
 // The line of a difference.
-fn put_difference(room: &mut [u8; text::ROOM], from: usize, d: Difference) -> usize {
+fn put_difference(
+    system: System,
+    room: &mut [u8; text::ROOM],
+    from: usize,
+    d: Difference,
+) -> usize {
     match d {
-        Difference::Missing(plan) => put_plan(room, from, plan, b" missing\n"),
-        Difference::Header(plan) => put_plan(room, from, plan, b" header\n"),
+        Difference::Missing(plan) => put_plan(system, room, from, plan, b" missing\n"),
+        Difference::Header(plan) => put_plan(system, room, from, plan, b" header\n"),
         Difference::At {
             plan,
             position,
             left,
             right,
         } => {
-            let at = put_position(room, from, plan, position);
-            put_places(room, at, left, right)
+            let at = put_position(system, room, from, plan, position);
+            put_places(system, room, at, left, right)
         }
     }
 }
 
-fn put_count(room: &mut [u8; text::ROOM], from: usize, lines: u32) {
-    let mut at = put(room, from, b"differences ");
-    at = put_number(room, at, lines as u64);
-    at = put(room, at, b"\n");
-    text::flush(room, at);
+fn put_count(system: System, room: &mut [u8; text::ROOM], from: usize, lines: u32) {
+    let mut at = put(system, room, from, b"differences ");
+    at = put_number(system, room, at, lines as u64);
+    at = put(system, room, at, b"\n");
+    text::flush(system, room, at);
 }
 
 // All differences of two files. (No two files have so many as there are turns.)
-fn show(left: &[u8], right: &[u8]) {
+fn show(system: System, left: &[u8], right: &[u8]) {
     let mut room = [0u8; text::ROOM];
     let mut at = 0;
     let mut from = From {
@@ -102,15 +126,15 @@ fn show(left: &[u8], right: &[u8]) {
     while lines < 1000000 {
         match plans::differing::differ(left, right, from.plan, from.position) {
             Differed::Refused(x) => {
-                refused(x);
+                refused(system, x);
                 return;
             }
             Differed::Nothing => {
-                put_count(&mut room, at, lines);
+                put_count(system, &mut room, at, lines);
                 return;
             }
             Differed::Found(d) => {
-                at = put_difference(&mut room, at, d);
+                at = put_difference(system, &mut room, at, d);
                 from = behind(d);
                 lines += 1;
             }
@@ -119,15 +143,15 @@ fn show(left: &[u8], right: &[u8]) {
 }
 
 // Reads the files that arguments i and j name into two rooms, and compares them.
-fn differ_in(left: &mut [u8], right: &mut [u8], i: usize, j: usize) {
-    let n = read(i, left);
-    let m = read(j, right);
-    show(lines::first(left, n), lines::first(right, m));
+fn differ_in(system: System, left: &mut [u8], right: &mut [u8], i: usize, j: usize) {
+    let n = read(system, i, left);
+    let m = read(system, j, right);
+    show(system, lines::first(left, n), lines::first(right, m));
 }
 
 // Compares the files that arguments i and j name.
-pub fn differ(i: usize, j: usize) {
+pub fn differ(system: System, i: usize, j: usize) {
     let mut left = [0u8; ROOM];
     let mut right = [0u8; ROOM];
-    differ_in(&mut left, &mut right, i, j);
+    differ_in(system, &mut left, &mut right, i, j);
 }

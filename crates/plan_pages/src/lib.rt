@@ -6,23 +6,24 @@ pub mod judged; // judged.rt: each plan of a file
 pub mod written; // written.rt: the file of given sets
 
 use files::Got;
-use libc::STDOUT_FILENO;
 use sets::Refusal;
+use system::System;
+use words::text::To;
 
 // A byte more than a file may have, so that a longer one is seen to be.
 const ROOM: usize = 65537;
 
 // Says a refusal, as an answer.
-fn refused(x: Refusal) {
-    words::text::say_refusal(STDOUT_FILENO, x.number, x.size);
+fn refused(system: System, x: Refusal) {
+    words::text::say_refusal(system, To::Output, x.number, x.size);
 }
 
 // Reads the file that argument i names, and answers how many bytes came. Of a file that can't be read none did, and that is not of the form.
-fn read(i: usize, room: &mut [u8]) -> usize {
-    match files::read(i, room) {
+fn read(system: System, i: usize, room: &mut [u8]) -> usize {
+    match files::read(system, i, room) {
         Got::Of(n) => n,
         Got::Unnamed => 0,
-        Got::Unopened => 0,
-        Got::Unread => 0,
+        Got::Unopened(_) => 0,
+        Got::Unread(_) => 0,
     }
 }

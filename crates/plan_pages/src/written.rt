@@ -1,9 +1,10 @@
 // `plans`: the file of given sets, three arguments a set, on standard output. A refusal is said on standard error, and then nothing is written.
-use libc::{STDERR_FILENO, STDOUT_FILENO};
 use numbers::Number;
 use plans::writing::{Length, Written};
 use sets::Refusal;
+use system::System;
 use words::arguments::LONGEST;
+use words::text::To;
 
 // The numbers of one set more than a file may have, so that too many are seen to be.
 const NUMBERS: usize = 51;
@@ -14,14 +15,14 @@ const FIRST: usize = 2;
 // A file has at most so many bytes.
 const BYTES: usize = 65536;
 
-fn refused(x: Refusal) {
-    words::text::say_refusal(STDERR_FILENO, x.number, x.size);
+fn refused(system: System, x: Refusal) {
+    words::text::say_refusal(system, To::Errors, x.number, x.size);
 }
 
 // The number that argument i says.
-fn number(i: usize) -> Number {
+fn number(system: System, i: usize) -> Number {
     let mut one = [0u8; LONGEST];
-    let k = os::arg(i, &mut one);
+    let k = system.arg(i, &mut one);
     numbers::read(&one[..k])
 }
 
@@ -31,13 +32,13 @@ fn argument(k: usize) -> usize {
 }
 
 // Takes `count` arguments as numbers, as far as there is room. Answers whether all are numbers.
-fn take_numbers(numbers: &mut [u32], count: usize) -> bool {
+fn take_numbers(system: System, numbers: &mut [u32], count: usize) -> bool {
     let mut k = 0;
     while k < numbers.len() {
         if k >= count {
             return true;
         }
-        match number(argument(k)) {
+        match number(system, argument(k)) {
             Number::Value(v) => {
                 numbers[k] = v;
             }
@@ -50,28 +51,28 @@ fn take_numbers(numbers: &mut [u32], count: usize) -> bool {
     true
 }
 
-fn write_bytes(numbers: &[u32], out: &mut [u8]) {
+fn write_bytes(system: System, numbers: &[u32], out: &mut [u8]) {
     match plans::writing::write(numbers, out) {
         Written::Done => {
-            words::text::write(STDOUT_FILENO, out);
+            words::text::write(system, To::Output, out);
         }
-        Written::Refused(x) => refused(x),
+        Written::Refused(x) => refused(system, x),
     }
 }
 
 // Writes in the part of a room that has the file's length, for which there is room.
-fn write_part(numbers: &[u32], room: &mut [u8], n: usize) {
+fn write_part(system: System, numbers: &[u32], room: &mut [u8], n: usize) {
     if n <= room.len() {
-        write_bytes(numbers, &mut room[..n]);
+        write_bytes(system, numbers, &mut room[..n]);
     }
 }
 
-fn write_file(numbers: &[u32]) {
+fn write_file(system: System, numbers: &[u32]) {
     match plans::writing::length_of(numbers) {
-        Length::Refused(x) => refused(x),
+        Length::Refused(x) => refused(system, x),
         Length::Bytes(b) => {
             let mut out = [0u8; BYTES];
-            write_part(numbers, &mut out, b as usize);
+            write_part(system, numbers, &mut out, b as usize);
         }
     }
 }
@@ -84,26 +85,26 @@ fn first(s: &[u32], n: usize) -> &[u32] {
     s
 }
 
-fn write_some(numbers: &[u32], count: usize) {
-    write_file(first(numbers, count));
+fn write_some(system: System, numbers: &[u32], count: usize) {
+    write_file(system, first(numbers, count));
 }
 
 // How many arguments stand behind the command.
-fn given() -> usize {
-    let n = os::arg_count();
+fn given(system: System) -> usize {
+    let n = system.arg_count();
     if n >= FIRST { n - FIRST } else { 0 }
 }
 
 // Writes the file of the sets that the arguments give. Answers whether they are in form: three numbers a set.
-pub fn write() -> bool {
-    let count = given();
+pub fn write(system: System) -> bool {
+    let count = given(system);
     let mut numbers = [0u32; NUMBERS];
     if (count == 0) | (count % 3 != 0) {
         return false;
     }
-    if !take_numbers(&mut numbers, count) {
+    if !take_numbers(system, &mut numbers, count) {
         return false;
     }
-    write_some(&numbers, count);
+    write_some(system, &numbers, count);
     true
 }

@@ -1,13 +1,16 @@
 // Plan files that are stored beside this program, as its arguments name them: each is judged, and compared with the next.
 #![tactic(auto)]
 
-fn main() {
-    let n = os::arg_count();
+use system::System;
+
+fn main(rt: HostRuntime) {
+    let system = System::of(rt);
+    let n = system.arg_count();
     let mut i = 1;
     while i < n {
-        plan_pages::judged::judge(i);
+        plan_pages::judged::judge(system, i);
         if i < n - 1 {
-            plan_pages::compared::differ(i, i + 1);
+            plan_pages::compared::differ(system, i, i + 1);
         }
         i += 1;
     }

@@ -4,22 +4,23 @@
 mod taken; // taken.rt: the bytes of the two lines, and no byte after them
 pub mod text; // text.rt: the text that they give
 
+use system::System;
 use taken::Taken;
 use words::text::ROOM;
 
 // Prints what the first n bytes give.
-fn print(bytes: &[u8; taken::MOST], n: usize) {
+fn print(system: System, bytes: &[u8; taken::MOST], n: usize) {
     let mut room = [0u8; ROOM];
-    let at = text::put_taken(&mut room, bytes, n);
-    words::text::flush(&room, at);
+    let at = text::put_taken(system, &mut room, bytes, n);
+    words::text::flush(system, &room, at);
 }
 
 // Reads the two lines, and prints the report or the refusal. Where a read fails, that is told and nothing is printed.
-pub fn report() {
+pub fn report(system: System) {
     let mut bytes = [0u8; taken::MOST];
-    match taken::take(&mut bytes) {
-        Taken::Settled(n) => print(&bytes, n),
-        Taken::Ended(n) => print(&bytes, n),
+    match taken::take(system, &mut bytes) {
+        Taken::Settled(n) => print(system, &bytes, n),
+        Taken::Ended(n) => print(system, &bytes, n),
         Taken::Failed => {}
     }
 }

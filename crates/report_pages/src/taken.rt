@@ -3,9 +3,9 @@
 ghost use Rattle.std.specs.Prelude.{◌≡◌, length};
 ghost use Rattle.report_pages.specs.Taken.{TakenBy};
 
-use libc::STDIN_FILENO;
 use lines::first;
 use report_asked::settled;
+use system::System;
 
 // What was read settles what is asked for before it is longer.
 pub(super) const MOST: usize = 10;
@@ -26,21 +26,20 @@ enum Next {
     Failed,
 }
 
-fn next_byte() -> Next {
+fn next_byte(system: System) -> Next {
     let mut one = [0u8; 1];
-    let got = libc::read(STDIN_FILENO, &mut one);
-    if got < 0 {
-        os::fail(b"interleaver: reading");
-        return Next::Failed;
+    match system.read(&mut one) {
+        Err(e) => {
+            system.fail(b"interleaver: reading", e);
+            Next::Failed
+        }
+        Ok(0) => Next::End,
+        Ok(_) => Next::Byte(one[0]),
     }
-    if got < 1 {
-        return Next::End;
-    }
-    Next::Byte(one[0])
 }
 
 // Takes them into a room of ten.
-pub(super) fn take(room: &mut [u8]) -> Taken
+pub(super) fn take(system: System, room: &mut [u8]) -> Taken
     requires { length room.old ≡ 10 }
     ensures { TakenBy room.new result }
 {
@@ -49,7 +48,7 @@ pub(super) fn take(room: &mut [u8]) -> Taken
         if settled(first(room, at)) {
             return Taken::Settled(at);
         }
-        match next_byte() {
+        match next_byte(system) {
             Next::Byte(b) => {
                 room[at] = b;
             }

@@ -4,6 +4,7 @@ ghost use Rattle.words.specs.Joined.{shown, Spaced, WithSome, WithArgument, Join
 
 use lines::{ROOM, append};
 use named::is_named;
+use system::System;
 
 // A word of a command has at most so many bytes; a longer argument counts as empty.
 pub const LONGEST: usize = 48;
@@ -55,23 +56,23 @@ fn with_some(room: &mut [u8; ROOM], line: Ends, w: &[u8], most: usize) -> Ends
 }
 
 // The same with argument i.
-fn with_argument(room: &mut [u8; ROOM], line: Ends, i: usize, most: usize) -> Ends
+fn with_argument(system: System, room: &mut [u8; ROOM], line: Ends, i: usize, most: usize) -> Ends
     ensures { WithArgument room.old line.at line.plain most room.new result.at result.plain }
 {
     let mut one = [0u8; LONGEST];
-    let k = os::arg(i, &mut one);
+    let k = system.arg(i, &mut one);
     with_some(room, line, &one[..k], most)
 }
 
 // The arguments as a line, a space after each: those that are named, and the first `most` of the others.
-pub fn join(room: &mut [u8; ROOM], most: usize) -> usize
+pub fn join(system: System, room: &mut [u8; ROOM], most: usize) -> usize
     ensures { Joined room.old most room.new result }
 {
-    let n = os::arg_count();
+    let n = system.arg_count();
     let mut line = Ends { at: 0, plain: 0 };
     let mut i = 1;
     while i < n {
-        line = with_argument(room, line, i, most);
+        line = with_argument(system, room, line, i, most);
         i += 1;
     }
     line.at

@@ -1,23 +1,40 @@
 // Text that is gathered before it is written: a system call for each part of a line would cost more than the line.
 ghost use Rattle.words.specs.Gathered.{Put, PutNumber};
 
-use libc::STDOUT_FILENO;
 use lines::first;
+use std::io::Result;
+use system::System;
 
 // The room that text is gathered in.
 pub const ROOM: usize = 4096;
 
-// Writes s, and says so where that fails.
-pub fn write(fd: i32, s: &[u8]) -> bool {
-    if io::write_all(fd, s) {
-        return true;
+// Where text goes: to standard output, or to standard error.
+#[derive(Clone, Copy)]
+pub enum To {
+    Output,
+    Errors,
+}
+
+fn send(system: System, to: To, s: &[u8]) -> Result<()> {
+    match to {
+        To::Output => system.print(s),
+        To::Errors => system.tell(s),
     }
-    os::fail(b"interleaver: writing");
-    false
+}
+
+// Writes s, and says so where that fails.
+pub fn write(system: System, to: To, s: &[u8]) -> bool {
+    match send(system, to, s) {
+        Ok(()) => true,
+        Err(e) => {
+            system.fail(b"interleaver: writing", e);
+            false
+        }
+    }
 }
 
 // Puts s after the `from` bytes that wait at the start of the room, and answers how many wait then. A full room is written first.
-pub fn put(room: &mut [u8; ROOM], from: usize, s: &[u8]) -> usize
+pub fn put(system: System, room: &mut [u8; ROOM], from: usize, s: &[u8]) -> usize
     ensures { Put room.old from s.now room.new result }
 {
     let mut at = from;
@@ -27,7 +44,7 @@ pub fn put(room: &mut [u8; ROOM], from: usize, s: &[u8]) -> usize
     }
     while i < s.len() {
         if at >= ROOM {
-            write(STDOUT_FILENO, room);
+            write(system, To::Output, room);
             at = 0;
         }
         room[at] = s[i];
@@ -38,38 +55,38 @@ pub fn put(room: &mut [u8; ROOM], from: usize, s: &[u8]) -> usize
 }
 
 // The same for a number in decimal.
-pub fn put_number(room: &mut [u8; ROOM], from: usize, n: u64) -> usize
+pub fn put_number(system: System, room: &mut [u8; ROOM], from: usize, n: u64) -> usize
     ensures { PutNumber room.old from n room.new result }
 {
     let mut digits = [0u8; 20];
     let k = io::decimal(n, &mut digits);
-    put(room, from, &digits[..k])
+    put(system, room, from, &digits[..k])
 }
 
 // Writes what waits.
-pub fn flush(room: &[u8; ROOM], at: usize) {
-    write(STDOUT_FILENO, first(room, at));
+pub fn flush(system: System, room: &[u8; ROOM], at: usize) {
+    write(system, To::Output, first(room, at));
 }
 
 // Writes words and a number.
-pub fn say(fd: i32, words: &[u8], n: u64) {
+pub fn say(system: System, to: To, words: &[u8], n: u64) {
     let mut digits = [0u8; 20];
     let k = io::decimal(n, &mut digits);
-    write(fd, words);
-    write(fd, &digits[..k]);
+    write(system, to, words);
+    write(system, to, &digits[..k]);
 }
 
 // Writes words, a number and the line's end.
-pub fn say_line(fd: i32, words: &[u8], n: u64) {
-    say(fd, words, n);
-    write(fd, b"\n");
+pub fn say_line(system: System, to: To, words: &[u8], n: u64) {
+    say(system, to, words, n);
+    write(system, to, b"\n");
 }
 
 // Writes the line of a refusal: its number, and behind 3 the size that would have fitted, which is 0 where there is none.
-pub fn say_refusal(fd: i32, number: u32, size: u32) {
+pub fn say_refusal(system: System, to: To, number: u32, size: u32) {
     if number == 3 {
-        say_line(fd, b"refused 3 ", size as u64);
+        say_line(system, to, b"refused 3 ", size as u64);
     } else {
-        say_line(fd, b"refused ", number as u64);
+        say_line(system, to, b"refused ", number as u64);
     }
 }

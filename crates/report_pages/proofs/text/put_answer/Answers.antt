@@ -1,0 +1,20 @@
+-- `put_answer` puts the text of what the bytes ask for.
+use mathlib.Core.Path.{◌≡◌, ap, sym, ◌∙◌}
+use Rattle.laws.specs.Outcome.{done}
+use Rattle.words.specs.Puts.{put_as}
+use Rattle.report_asked.specs.Asked.{asked_by, say_asked}
+use Rattle.report_asked.specs.Exactly.{asked_exactly}
+use Rattle.report_pages.specs.Text.{text_of, answer_text}
+use Rattle.report_pages.proofs.text.put_answer.Goals as goal
+
+pub put_report-requires : goal.put_report-requires
+put_report-requires c = ((asked_exactly _ _ _).0 (sym (let asked_here_here : done c.in-Of.r ≡ asked_by c.args.bytes.now = sym (ap say_asked c.in-Of.is) ∙ c.read.ensures in asked_here_here))).1
+
+pub returns-in-Of : goal.returns-in-Of
+unfolding answer_text
+returns-in-Of c = put_as (ap text_of (let asked_here_here : done c.in-Of.r ≡ asked_by c.args.bytes.now = sym (ap say_asked c.in-Of.is) ∙ c.read.ensures in asked_here_here)) c.put_report.ensures
+
+pub returns-in-Refused : goal.returns-in-Refused
+unfolding answer_text
+returns-in-Refused c =
+    put_as (ap text_of (sym (ap say_asked c.in-Refused.is) ∙ c.read.ensures)) c.put_refusal.ensures

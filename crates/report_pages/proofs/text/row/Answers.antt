@@ -1,0 +1,9 @@
+-- `row` puts a line: five numbers.
+use Rattle.words.specs.Puts.{put_join}
+use Rattle.report_pages.specs.Text.{row_text}
+use Rattle.report_pages.proofs.text.row.Goals as goal
+
+pub returns : goal.returns
+unfolding row_text
+returns c =
+    put_join c.field-k.ensures (put_join c.field-r.ensures (put_join c.field-c.ensures (put_join c.field-cells.ensures c.field.ensures)))

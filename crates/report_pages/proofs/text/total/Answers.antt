@@ -1,0 +1,9 @@
+-- `total` puts the last line: a word and three numbers.
+use Rattle.words.specs.Puts.{put_join}
+use Rattle.report_pages.specs.Text.{total_text}
+use Rattle.report_pages.proofs.text.total.Goals as goal
+
+pub returns : goal.returns
+unfolding total_text
+returns c =
+    put_join c.put-at.ensures (put_join c.field-sizes.ensures (put_join c.field-cells.ensures c.field.ensures))
