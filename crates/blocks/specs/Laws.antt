@@ -13,7 +13,7 @@ use Rattle.sets.specs.declared.Set.{Set}
 use Rattle.families.specs.Symbols.{symbols_of, block_rule, block_l, block_in}
 use Rattle.tables.specs.Answer.{block_lines, moved_of}
 use Rattle.movers.specs.Moves.{other, perm_in, moved_by, moved_is, moved_any, moved_blind}
-use Rattle.tables.specs.Passed.{its_perm, its_lengths, its_output}
+use Rattle.tables.proofs.Passed.{its_perm, its_lengths, its_output}
 use Rattle.blocks.specs.Answer.{moved}
 
 -- where a call is done

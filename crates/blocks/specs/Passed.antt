@@ -8,7 +8,8 @@ use Rattle.laws.specs.Loop.{by}
 use Rattle.sets.specs.declared.Set.{Set}
 use Rattle.families.specs.Symbols.{symbols_of, block_l}
 use Rattle.movers.specs.Moves.{Fitting, moved_by, moved_same}
-use Rattle.tables.specs.Passed.{Judged, Tabled, judged_output}
+use Rattle.tables.specs.Passed.{Judged, Tabled}
+use Rattle.tables.proofs.Passed.{judged_output}
 use Rattle.blocks.specs.Answer.{moved}
 
 module _ {A : Type 0} {s : Set} {table : List ℕ} (src dst : List A) (e : Judged s (symbols_of s) (length src) (length dst)) (t : Tabled s table) where

@@ -5,7 +5,8 @@ use Rattle.laws.specs.Sentences.{FirstTrue}
 use Rattle.sets.specs.declared.Set.{Set}
 use Rattle.families.specs.Symbols.{symbols_of, block_l}
 use Rattle.movers.specs.Moves.{moved_by}
-use Rattle.tables.specs.Refusals.{block_sentences, buffer_kept}
+use Rattle.tables.specs.Refusals.{block_sentences}
+use Rattle.tables.proofs.Refusals.{buffer_kept}
 use Rattle.blocks.specs.Answer.{moved}
 
 pub output_kept : {A : Type 0} (way : Way) (s : Set) (z : A) (src dst : List A) (k : ℕ) → FirstTrue (block_sentences s (symbols_of s) (length src) (length dst)) k

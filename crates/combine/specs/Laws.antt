@@ -14,7 +14,7 @@ use Rattle.sets.specs.Verdict.{refusal}
 use Rattle.families.specs.Rules.{L, M, lawful}
 use Rattle.positions.specs.Heard.{running, Reception, Kept, kept, held, heard}
 use Rattle.tables.specs.Answer.{block_lines, moved_of}
-use Rattle.tables.specs.Passed as tabled
+use Rattle.tables.proofs.Passed as tabled
 use Rattle.adders.specs.Lines.{value_lines}
 use Rattle.adders.specs.Adding.{sums_by, counts_by}
 use Rattle.combine.specs.Answer.{add_lines, added_of, sums_of, counts_of}

@@ -18,7 +18,8 @@ use Rattle.families.specs.Symbols.{symbols_of, symbols_plain, block_plain}
 use Rattle.tables.specs.declared.Moved.{Moved}
 use Rattle.tables.specs.declared.Moved.TheVariants.{Done, Refused}
 use Rattle.tables.specs.Answer.{length_lines, block_lines, moved_of, say_moved}
-use Rattle.tables.specs.Passed.{Judged, Tabled, block_served, answer_one}
+use Rattle.tables.specs.Passed.{Judged, Tabled}
+use Rattle.tables.proofs.Passed.{block_served, answer_one}
 use Rattle.positions.specs.declared.Running.{Running}
 use Rattle.positions.specs.Heard.{Reception, Kept, held, heard}
 use Rattle.adders.specs.Any.{any, any_none}

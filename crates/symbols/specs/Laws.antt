@@ -12,7 +12,7 @@ use Rattle.sets.specs.declared.Set.{Set}
 use Rattle.families.specs.Symbols.{symbols_of, block_rule, block_l, block_in}
 use Rattle.tables.specs.Answer.{moved_of}
 use Rattle.movers.specs.Moves.{other, perm_in, moved_is}
-use Rattle.tables.specs.Passed.{its_perm, its_lengths, its_output}
+use Rattle.tables.proofs.Passed.{its_perm, its_lengths, its_output}
 use Rattle.symbol_movers.specs.Groups.{groups, joined, length_groups, joined_groups, get_or_groups}
 use Rattle.symbols.specs.Wide.{Wide, wide_groups, wide_gather, length_joined, groups_joined}
 use Rattle.symbol_movers.specs.Grouped.{symbols_by}

@@ -9,7 +9,8 @@ use Rattle.laws.specs.Loop.{by}
 use Rattle.sets.specs.declared.Set.{Set}
 use Rattle.families.specs.Symbols.{symbols_of, block_l}
 use Rattle.movers.specs.Moves.{moved_same}
-use Rattle.tables.specs.Passed.{Judged, Tabled, judged_output}
+use Rattle.tables.specs.Passed.{Judged, Tabled}
+use Rattle.tables.proofs.Passed.{judged_output}
 use Rattle.symbol_movers.specs.Groups.{groups, joined}
 use Rattle.symbol_movers.specs.Grouped.{symbols_by, Movable}
 use Rattle.symbols.specs.Answer.{moved_symbols}

@@ -4,7 +4,8 @@ use Rattle.laws.specs.declared.Way.{Way}
 use Rattle.laws.specs.Sentences.{FirstTrue}
 use Rattle.sets.specs.declared.Set.{Set}
 use Rattle.families.specs.Symbols.{symbols_of, block_l}
-use Rattle.tables.specs.Refusals.{block_sentences, buffer_kept}
+use Rattle.tables.specs.Refusals.{block_sentences}
+use Rattle.tables.proofs.Refusals.{buffer_kept}
 use Rattle.symbol_movers.specs.Grouped.{symbols_by}
 use Rattle.symbols.specs.Answer.{moved_symbols}
 

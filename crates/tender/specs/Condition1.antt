@@ -12,10 +12,12 @@ use Rattle.sets.proofs.Refusals.{refusal_order_test}
 use Rattle.families.specs.Symbols.{symbols_of}
 use Rattle.walks.specs.declared.Walk.{Walk}
 use Rattle.walks.specs.Answer.{walked_of, slice_of, found_of}
-use Rattle.walks.specs.Refusals.{walk_sentences, one_sentences, refusal_order_one, slice_kept}
-use Rattle.walks.specs.Refusals as walking
+use Rattle.walks.specs.Refusals.{walk_sentences, one_sentences}
+use Rattle.walks.proofs.Refusals.{refusal_order_one, slice_kept}
+use Rattle.walks.proofs.Refusals as walking
 use Rattle.tables.specs.Answer.{moved_of}
-use Rattle.tables.specs.Refusals.{block_sentences, refusal_order_block}
+use Rattle.tables.specs.Refusals.{block_sentences}
+use Rattle.tables.proofs.Refusals.{refusal_order_block}
 use Rattle.blocks.specs.Answer.{moved}
 use Rattle.blocks.specs.Refusals as blocks
 use Rattle.symbols.specs.Answer.{moved_symbols}

@@ -30,9 +30,9 @@ use Rattle.families.specs.Rules as rules
 use Rattle.families.specs.Symbols.{symbols_of, block_l, block_m, symbols_plain, block_plain, block_once}
 use Rattle.walks.specs.Lists as lists
 use Rattle.walks.specs.Answer.{walked_of, walk_values, found_of}
-use Rattle.walks.specs.Served.{walk_served, address_served, walkable_listed}
+use Rattle.walks.proofs.Served.{walk_served, address_served, walkable_listed}
 use Rattle.tables.specs.Answer.{moved_of, blind_answer}
-use Rattle.tables.specs.Passed.{block_served}
+use Rattle.tables.proofs.Passed.{block_served}
 use Rattle.blocks.specs.Answer.{moved}
 use Rattle.blocks.specs.Laws as moves
 

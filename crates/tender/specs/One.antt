@@ -11,7 +11,7 @@ use Rattle.sets.specs.declared.Set.{Set}
 use Rattle.families.specs.Symbols.{symbols_of, block_rule, block_in}
 use Rattle.tables.specs.Answer.{block_lines, moved_of}
 use Rattle.movers.specs.Moves.{perm_in, moved_is}
-use Rattle.tables.specs.Passed.{its_perm, its_lengths}
+use Rattle.tables.proofs.Passed.{its_perm, its_lengths}
 use Rattle.blocks.specs.Answer.{moved}
 use Rattle.symbol_movers.specs.Groups.{groups, joined, length_groups, get_or_groups}
 use Rattle.symbols.specs.Answer.{moved_symbols}

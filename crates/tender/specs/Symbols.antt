@@ -6,7 +6,7 @@ use Rattle.laws.specs.Outcome.{done}
 use Rattle.sets.specs.declared.Set.{Set}
 use Rattle.families.specs.Symbols.{symbols_of, block_l, block_m}
 use Rattle.tables.specs.Answer.{moved_of}
-use Rattle.tables.specs.Passed.{block_served, answer_one}
+use Rattle.tables.proofs.Passed.{block_served, answer_one}
 use Rattle.blocks.specs.Answer.{moved}
 use Rattle.tables.specs.Answer.{blind_answer}
 use Rattle.symbols.specs.Answer.{moved_symbols}

@@ -3,6 +3,5 @@ pub mod Passed
 pub mod Lists
 pub mod Calls
 pub mod Whole
-pub mod Served
 pub mod Refusals
 pub mod Wrong

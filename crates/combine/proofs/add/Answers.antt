@@ -3,7 +3,7 @@ use mathlib.Core.Bool.{false}
 use mathlib.Core.Path.{◌≡◌, sym, ap, ◌∙◌}
 use Rattle.positions.specs.Heard.{reception, kept}
 use Rattle.tables.specs.Answer.{moved_of, say_moved}
-use Rattle.tables.specs.Passed.{judged_so}
+use Rattle.tables.proofs.Passed.{judged_so}
 use Rattle.sets.specs.Set.{family_of, is_coupled}
 use Rattle.combine.specs.Passed.{input_of, output_of, couples_refused, said_so, block_refused}
 use Rattle.combine.proofs.add.Goals as goal

@@ -1,7 +1,7 @@
 -- `symbols::move_symbols` meets its contract: the refusal of its judgement, or the block moved.
 use mathlib.Core.Path.{sym, ap, ◌∙◌}
 use Rattle.tables.specs.Answer.{say_moved}
-use Rattle.tables.specs.Passed.{judged_so, kept_output}
+use Rattle.tables.proofs.Passed.{judged_so, kept_output}
 use Rattle.symbols.specs.Answer.{moved_symbols}
 use Rattle.symbols.proofs.move_symbols.Goals as goal
 

@@ -1,7 +1,7 @@
 -- `tables::fill` leaves the symbols of a block in the table: the walk for L from the first cell, and of couples their symbols.
 use mathlib.Core.Path.{sym, ◌∙◌}
 use borrow.Author.Rules.{rules}
-use Rattle.tables.specs.Passed.{tabled_plain, couples_tabled, tabled_spread}
+use Rattle.tables.proofs.Passed.{tabled_plain, couples_tabled, tabled_spread}
 use Rattle.tables.proofs.fill.Goals as goal
 
 pub spread-requires : goal.spread-requires

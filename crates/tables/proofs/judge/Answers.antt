@@ -3,7 +3,7 @@ use mathlib.Core.Path.{sym, ap, ◌∙◌}
 use Rattle.laws.specs.Outcome.{refused}
 use Rattle.sets.specs.Verdict.{say_ruled, clear_accepts, stopped_refuses}
 use Rattle.sets.specs.Admits.{Accepted}
-use Rattle.tables.specs.Passed.{block_refused, is_five, is_six, block_served}
+use Rattle.tables.proofs.Passed.{block_refused, is_five, is_six, block_served}
 use Rattle.tables.proofs.judge.Goals as goal
 
 pub returns-then-input-total : goal.returns-then-input-total

@@ -4,7 +4,7 @@ use native.Mathlib.Omega.{arith}
 use Rattle.laws.specs.Outcome.{refused}
 use Rattle.sets.specs.Verdict.{say_ruled, clear_accepts, stopped_refuses}
 use Rattle.sets.specs.Admits.{Accepted}
-use Rattle.walks.specs.Passed.{one_refused, one_past, one_found, one_small}
+use Rattle.walks.proofs.Passed.{one_refused, one_past, one_found, one_small}
 use Rattle.walks.proofs.address_by.Goals as goal
 
 pub returns-then-x-set : goal.returns-then-x-set

@@ -2,7 +2,7 @@
 use mathlib.Core.Path.{sym, ap, ◌∙◌}
 use Rattle.sets.specs.Verdict.{say_ruled, clear_accepts, stopped_refuses}
 use Rattle.families.specs.Taken.{walk_leaf_fits}
-use Rattle.walks.specs.Passed.{refused_answer, refused_slice, leaf_answer, leaf_slice}
+use Rattle.walks.proofs.Passed.{refused_answer, refused_slice, leaf_answer, leaf_slice}
 use Rattle.walks.proofs.walk_by.Goals as goal
 
 pub walk-leaf-requires : goal.walk-leaf-requires

@@ -1,7 +1,7 @@
 -- `blocks::bytes::move_block` meets its contract: the refusal of its judgement, or the block moved.
 use mathlib.Core.Path.{sym, ap, ◌∙◌}
 use Rattle.tables.specs.Answer.{say_moved}
-use Rattle.tables.specs.Passed.{answer_one, judged_so, kept_output}
+use Rattle.tables.proofs.Passed.{answer_one, judged_so, kept_output}
 use Rattle.blocks.specs.Answer.{moved}
 use Rattle.blocks.proofs.bytes.move_block.Goals as goal
 

@@ -16,7 +16,7 @@ use Rattle.walks.specs.Answer.{walk_lines, walk_values, walked_of, found_of}
 use Rattle.sets.specs.Admits.{Accepted}
 use Rattle.sets.proofs.Admits.{accepted_front}
 use Rattle.families.specs.Taken.{Walkable}
-use Rattle.walks.specs.Passed.{one_found}
+use Rattle.walks.proofs.Passed.{one_found}
 use Rattle.walks.specs.Refusals.{NotWalked}
 
 -- a walk is had but for M of profiles 5, 8 and 9
