@@ -17,7 +17,8 @@ use Rattle.plan_writer.specs.Lengths.{file_length_lem}
 use Rattle.plan_writer.specs.Back.{GoodSets, plans_read, written_formed, plan_read, good_at}
 use Rattle.plans.specs.Judging.{same, judge_lines, judged_of, counted_of, counted_plans}
 use Rattle.plans.specs.Laws.{judged_equal}
-use Rattle.plans.specs.Writing.{length_of, length_says}
+use Rattle.plans.specs.Writing.{length_of}
+use Rattle.plans.proofs.WritingLaws.{length_says}
 
 -- the sets of a slice of numbers have stream 1 and no factors
 of_three : (l : List ℕ) (i k : ℕ) → All (λ s. set_of s.profile s.bits s.n ≡ s) (run (set_at l) i k)
