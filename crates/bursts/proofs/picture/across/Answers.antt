@@ -1,7 +1,7 @@
 -- No byte comes out before its own number, so nothing is taken from less.
 use Prim.Native.Nat.{◌+◌}
 use native.Mathlib.Omega.{arith}
-use Rattle.delay.specs.Burst.{comes_behind}
+use Rattle.delay.proofs.Burst.{comes_behind}
 use Rattle.kinds.specs.Kinds.{sizes_of, sound}
 use Rattle.bursts.proofs.picture.across.Goals as goal
 
