@@ -1,6 +1,6 @@
 -- Every index is in range, and every number a byte's.
 use Rattle.std.proofs.Common.{◌-◌, ◌≤◌}
-use Rattle.cases.proofs.couples.number_all.Given as goal
+use Rattle.cases.proofs.coupled.number_all.Given as goal
 
 abbrev pub invariant-loop-i : goal.invariant-loop-i
 invariant-loop-i l = l.i ≤ 48
