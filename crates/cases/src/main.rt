@@ -2,7 +2,7 @@
 // refusals, by the public calls: each is printed with its outcome.
 #![tactic(auto)]
 
-mod couples;
+mod coupled;
 mod looks;
 mod nothing;
 mod squares;
@@ -228,20 +228,20 @@ fn main(rt: HostRuntime) {
     tests(system);
     turned::test_streams(system);
     squares::test_factors(system);
-    couples::test_numbers(system);
+    coupled::test_numbers(system);
     show_walks(system);
     turned::show_turned(system);
     show_ones(system);
     turned::show_ones(system);
     squares::show_squares(system);
-    couples::show_couples(system);
+    coupled::show_couples(system);
     show_blocks(system, Way::Interleaver);
     show_blocks(system, Way::Deinterleaver);
-    couples::show_blocks(system, Way::Interleaver);
-    couples::show_blocks(system, Way::Deinterleaver);
-    couples::show_symbols(system);
+    coupled::show_blocks(system, Way::Interleaver);
+    coupled::show_blocks(system, Way::Deinterleaver);
+    coupled::show_symbols(system);
     show_softs(system, new_set(3, 4, 192));
-    couples::show_softs(system);
+    coupled::show_softs(system);
     nothing::feeds(system, Stream::DVB, Way::Interleaver);
     nothing::feeds(system, Stream::DVB, Way::Deinterleaver);
     nothing::feeds(system, Stream::ATSC, Way::Interleaver);

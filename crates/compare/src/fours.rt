@@ -3,7 +3,7 @@
 use crate::chosen::{coupled_set, four, verdict};
 use crate::count;
 use crate::count::Tried;
-use second::couples::shares;
+use second::coupled::shares;
 use sets::Factors;
 use system::System;
 

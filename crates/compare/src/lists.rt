@@ -36,7 +36,7 @@ pub fn list_of(way: Way, set: Set, made: Made, list: &mut [u16]) -> Whole {
         Made::Unexchanged => second::unexchanged(set, list),
         Made::Unturned => second::unturned(way, set, list),
         Made::Unsquared => second::squares::unsquared(set, list),
-        Made::Misprinted => second::couples::misprinted(set, list),
+        Made::Misprinted => second::coupled::misprinted(set, list),
         Made::SwappedEven => second::list_of(way, set, list),
     }
 }
@@ -50,7 +50,7 @@ fn symbols_off(set: Set, list: &mut [u16]) {
 pub fn symbols_of(set: Set, made: Made, list: &mut [u16]) {
     match made {
         Made::Off => symbols_off(set, list),
-        Made::SwappedEven => second::couples::swapped_even(set, list),
+        Made::SwappedEven => second::coupled::swapped_even(set, list),
         _ => second::symbols_of(set, list),
     }
 }

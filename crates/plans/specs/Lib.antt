@@ -3,5 +3,4 @@ pub mod Writing
 pub mod Differing
 pub mod Laws
 pub mod Refusals
-pub mod Back
 pub mod Asked

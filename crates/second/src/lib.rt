@@ -2,7 +2,7 @@
 // standards', with a division at each address. It knows nothing of the walk, and promises nothing: a program holds the proved lists against it.
 #![tactic(auto)]
 
-pub mod couples; // couples.rt: the couples and symbols of profile 9, and its outputs tried
+pub mod coupled; // coupled.rt: the couples and symbols of profile 9, and its outputs tried
 pub mod num; // num.rt: arithmetic that never fails
 mod primes; // primes.rt: primes, the least primitive root, the next q
 pub mod squares; // squares.rt: the quadratic list of profile 8, and its positions tried
@@ -176,7 +176,7 @@ pub fn list_of(way: Way, set: Set, list: &mut [u16]) -> Whole {
         return squares::list_of(set, list);
     }
     if set.profile == 9 {
-        return couples::list_of(set, list);
+        return coupled::list_of(set, list);
     }
     carrier_list(way, set, turn(set), list)
 }
@@ -184,7 +184,7 @@ pub fn list_of(way: Way, set: Set, list: &mut [u16]) -> Whole {
 // For each symbol of an accepted set's output its input symbol. For a profile without couples, that is L.
 pub fn symbols_of(set: Set, list: &mut [u16]) {
     if set.profile == 9 {
-        couples::symbols_of(set, list);
+        coupled::symbols_of(set, list);
         return;
     }
     list_of(Way::Interleaver, set, list);

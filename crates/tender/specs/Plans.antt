@@ -18,12 +18,14 @@ use Rattle.plan_form.specs.Planned.{planned_lines, planned_profile, planned_acce
 use Rattle.plan_writer.specs.File.{set_at, sets_in, file_of, file_length, bad_of}
 use Rattle.plan_writer.specs.Bad.{FirstBad}
 use Rattle.plans.specs.Judging.{Compared, same, wrong, compared, judge_lines, judged_of, counted_of}
-use Rattle.plans.specs.Writing.{length_lines, write_lines, room_lines, length_of, written_of, buffer_of, length_says, write_done, write_new}
+use Rattle.plans.specs.Writing.{length_lines, write_lines, room_lines, length_of, written_of, buffer_of}
+use Rattle.plans.proofs.WritingLaws.{length_says, write_done, write_new}
 use Rattle.plans.specs.Differing.{differed_of}
 use Rattle.plans.specs.Laws as law
-use Rattle.plans.specs.Back as back
-use Rattle.plans.specs.Refusals.{file_sentence, judge_sentences, length_sentences, write_sentences, files_sentences, buffer_kept}
-use Rattle.plans.specs.Refusals as order
+use Rattle.plans.proofs.Back as back
+use Rattle.plans.specs.Refusals.{file_sentence, judge_sentences, length_sentences, write_sentences, files_sentences}
+use Rattle.plans.proofs.Refusals.{buffer_kept}
+use Rattle.plans.proofs.Refusals as order
 use Rattle.tender.specs.Fits.{HandsOn, carries}
 
 -- "anything else, or more than 65,536 bytes, is refusal 12": PlanFile has the sentences

@@ -5,7 +5,6 @@ use Rattle.std.specs.Prelude.{ℕ, ◌-◌, ◌≤◌, cond, List, [], ◌∷◌
 use Rattle.std.proofs.Common.{ap, arith}
 use Rattle.laws.specs.Euclid.{gcd_in, gcd}
 use Rattle.laws.specs.Keep.{keep, padding}
-use Rattle.laws.specs.Members.{All}
 use Rattle.laws.specs.Once.{inside}
 use Rattle.laws.specs.Position.{position}
 use Rattle.sets.specs.declared.Set.{Set}
@@ -231,14 +230,3 @@ ours =
     ∷ row total (turbo 2281) 0 (2520 ∷ []) refl
     ∷ row give (turbo 2281) 22 (1134 ∷ 1764 ∷ 504 ∷ 0 ∷ 252 ∷ 630 ∷ 882 ∷ 1512 ∷ 2268 ∷ 2016 ∷ 1638 ∷ 2142 ∷ 1890 ∷ 378 ∷ 126 ∷ 756 ∷ 1386 ∷ 1008 ∷ 1260 ∷ 1242 ∷ []) refl
     ∷ []
-
--- every row of such a table holds
-rows_hold : (rs : List Row) → All (λ r. answer r.question r.set r.argument ≡ r.expected) rs
-rows_hold [] = tt
-rows_hold (r ∷ rs) = (r.holds, rows_hold rs)
-
-pub stars_hold : All (λ r. answer r.question r.set r.argument ≡ r.expected) stars
-stars_hold = rows_hold stars
-
-pub ours_hold : All (λ r. answer r.question r.set r.argument ≡ r.expected) ours
-ours_hold = rows_hold ours

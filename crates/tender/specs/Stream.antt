@@ -12,7 +12,7 @@ use Rattle.delay.specs.Bytes.{ring_at, row_at, slot_at}
 use Rattle.delay.proofs.Standing.{output_number, store_number}
 use Rattle.delay.specs.Delay.{late_early, late_from}
 use Rattle.kinds.specs.declared.Stream.{Stream}
-use Rattle.kinds.specs.Kinds.{sizes_of, machine_of, stand_of, start_record}
+use Rattle.kinds.specs.Kinds.{sizes_of, start_record}
 use Rattle.kinds.specs.Ranges.{Ranges, range_in, within}
 use Rattle.streams.specs.declared.Answer.{Answer}
 use Rattle.streams.specs.Fed.{start_store, fed_output, fed_store, fed_record}

@@ -1,7 +1,7 @@
 -- `plans::writing::length_of` counts the sets, tests them, and looks at their file's length.
 use mathlib.Core.Path.{sym, ap, ◌∙◌}
 use Rattle.plan_writer.specs.File.{say_measured}
-use Rattle.plans.specs.Writing.{length_uneven, length_few, length_many, length_stops, length_large, length_good}
+use Rattle.plans.proofs.WritingLaws.{length_uneven, length_few, length_many, length_stops, length_large, length_good}
 use Rattle.plans.proofs.writing.length_of.Goals as goal
 
 pub returns-then-len-ne0 : goal.returns-then-len-ne0

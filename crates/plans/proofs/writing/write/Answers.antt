@@ -2,7 +2,8 @@
 use mathlib.Core.Path.{sym, ap, ◌∙◌}
 use native.Mathlib.Omega.{arith}
 use lib.ListN.{length}
-use Rattle.plans.specs.Writing.{say_length, buffer_of, write_stops, write_keeps, write_six, write_done, write_new, write_filed}
+use Rattle.plans.specs.Writing.{say_length, buffer_of}
+use Rattle.plans.proofs.WritingLaws.{write_stops, write_keeps, write_six, write_done, write_new, write_filed}
 use borrow.Author.Rules.{rules}
 use Rattle.plans.proofs.writing.write.Goals as goal
 
