@@ -24,6 +24,7 @@ fn digit(b: u8) -> u64
     (b - b'0') as u64
 }
 
+#[tactic(auto, using(crate::specs::Decimal::reads_wrong))]
 fn digits(s: &[u8]) -> Number
     ensures { result ≡ read_from 0 s.now }
 {
