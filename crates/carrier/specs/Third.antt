@@ -11,7 +11,7 @@ use Rattle.carrier.specs.Formula.{carrier_m, carrier_l}
 unfoldable pub turn : ℕ → ℕ → ℕ → ℕ
 turn bits r i = ((2 * (i - 1)) % 3 + 3 * ((i - 1) / 3)) * r * bits
 
--- (j - turn) mod N. N is added first, which changes no remainder, so that nothing is taken from 0 (`turn_below` in specs/Turned.antt)
+-- (j - turn) mod N. N is added first, which changes no remainder, so that nothing is taken from 0 (`turn_below` in proofs/Turned.antt)
 unfoldable pub third_step : ℕ → ℕ → ℕ → ℕ → ℕ → ℕ
 third_step n bits r i j = (j + n - turn bits r i) % n
 

@@ -1,6 +1,7 @@
 -- The refusals of the calls on plan files in the sentences of change request 9, in its order: 12, 4, 1, then the set's own, for a plan that is judged; 12, the
 -- first bad set's own, 12, 6 for a file that is written; 12 for a count, and for either file of two. A number is said exactly when its sentence is the first
 -- that holds.
+-- Here stand the definitions; what is said of them is proved in proofs/Refusals.antt.
 use Rattle.std.specs.Prelude.{ℕ, ◌-◌, ◌/◌, ◌%◌, ◌<◌, List, [], ◌∷◌, ◌++◌, ◌≢◌, ◌≡◌, length}
 use Rattle.laws.specs.Sentences.{Sentence, sentence}
 use Rattle.sets.specs.declared.Set.{Set}

@@ -1,5 +1,6 @@
 -- What asking for the length of a file and writing it answer. The lines stand in the order of the checks: 12 for the number of sets, the first bad set's own,
 -- 12 for the size, 6 for the buffer.
+-- Here stand the definitions; what is said of them is proved in proofs/WritingLaws.antt.
 use Rattle.std.specs.Prelude.{ℕ, ◌/◌, ◌%◌, ◌≤◌, not, List, [], ◌∷◌, ◌++◌, eqb, ltb, length}
 use Rattle.std.proofs.Math.Path.{◌≡◌}
 use Rattle.laws.specs.Outcome.{Outcome, done, refused, Line, line, clear, first, judged, after}

@@ -1,6 +1,6 @@
 -- The profiles: what each is in numbers, and what it admits, counted out with no remainder taken anywhere: document 01's table "Profiles and what each
 -- admits", change request 4's profiles 6 and 7, change request 6's profile 8, and change request 12's profile 9. Then the tests of bits and N that the
--- numbers make; specs/Counted.antt, with specs/Listed.antt of sizes, shows that they and the count agree. What is proved of a further profile of carriers,
+-- numbers make; proofs/Counted.antt, with specs/Listed.antt of sizes, shows that they and the count agree. What is proved of a further profile of carriers,
 -- of one stream or of four, needs its lines here and in src/table.rt, and no others, as far as N is at most 1,536 and its unit below 1,000. These are
 -- definitions.
 use Rattle.std.specs.Prelude.{Bool, cond, ◌&&◌, List, [], ◌∷◌, ◌++◌, ℕ, ◌+◌, ◌*◌, ◌%◌, leb, eqb}

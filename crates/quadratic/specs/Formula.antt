@@ -1,4 +1,4 @@
--- The quadratic interleaver of 3GPP TS 36.212 5.1.3.2.3, and the tests of its two numbers. (specs/Law.antt: the last passes exactly where no two
+-- The quadratic interleaver of 3GPP TS 36.212 5.1.3.2.3, and the tests of its two numbers. (proofs/Law.antt: the last passes exactly where no two
 -- positions share an address.) These are definitions.
 use Rattle.std.specs.Prelude.{ℕ, ◌+◌, ◌*◌, ◌%◌, ◌^◌, Bool, ◌&&◌, ltb, eqb}
 use Rattle.laws.specs.Run.{run}

@@ -1,5 +1,6 @@
 -- Exactly the sets of a listed size and stream, with what they must have beside them, are accepted: no line of the test applies to a size if and
 -- only if it stands in the table that is counted out (specs/Profiles.antt of profiles), since exactly those sizes pass their tests (specs/Admits.antt of sizes).
+-- Here stand the definitions; what is said of them is proved in proofs/Admits.antt.
 use Rattle.std.specs.Prelude.{◌≡◌, true}
 use mathlib.Core.List.{Memᴰ}
 use Rattle.laws.specs.Outcome.{done, Clear}

@@ -1,4 +1,5 @@
 -- What an accepted set is, by its family (specs/Fit.antt), its stream, its factors and its size.
+-- Here stand the definitions; what is said of them is proved in proofs/Carried.antt.
 use Rattle.std.specs.Prelude.{◌≡◌, true, ◌%◌, ◌≤◌, ◌<◌}
 use Rattle.quadratic.specs.Formula.{all_apart}
 use Rattle.couples.specs.Formula as couple

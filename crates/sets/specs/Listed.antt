@@ -1,5 +1,6 @@
 -- The listed sets: every listed size with every stream of its profile, counted out; and that exactly these are accepted, where no sentence of what
 -- a set must have beside them holds.
+-- Here stand the definitions; what is said of them is proved in proofs/Listed.antt.
 use Rattle.std.specs.Prelude.{ℕ}
 use mathlib.Core.List.{List, map}
 use Rattle.laws.specs.Run.{run}

@@ -1,5 +1,6 @@
 -- A profile whose sizes are one row, with bits 1 and one stream, as profiles 5, 8 and 9 are: a set of it is accepted exactly when N stands in the row, bits and
 -- stream are 1, and no sentence of what it must have beside them holds. Rests on Admits, and on Counted of profiles.
+-- Here stand the definitions; what is said of them is proved in proofs/OneRow.antt.
 use Rattle.std.specs.Prelude.{◌≡◌, ℕ, ◌≤◌}
 use mathlib.Core.List.{List, [], ◌∷◌}
 use Rattle.profiles.specs.declared.Bits.TheVariants.{One}

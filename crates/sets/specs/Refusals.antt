@@ -1,5 +1,6 @@
 -- The refusals of a set in the sentences of document 01, 1, 2, 3, of request 4, 16, and of requests 6 and 12, 11 and 10, in that order; and that a number is said
 -- exactly when its sentence is the first that holds. Lines of other calls may stand behind.
+-- Here stand the definitions; what is said of them is proved in proofs/Refusals.antt.
 use Rattle.std.specs.Prelude.{ℕ, ◌≤◌}
 use mathlib.Core.List.{List, [], ◌∷◌, ◌++◌, Memᴰ}
 use Rattle.laws.specs.Sentences.{Sentence, sentence}

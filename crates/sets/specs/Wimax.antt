@@ -1,5 +1,6 @@
 -- Which sets of profile 9 are accepted, in the words of request 12: N is a multiple of 4 from 24 to 2,400, bits and stream are 1, P0 to P3 are below N, and no two
 -- outputs share a couple. The test of a set accepts exactly these. Rests on OneRow.
+-- Here stand the definitions; what is said of them is proved in proofs/Wimax.antt.
 use mathlib.Core.List.{Memᴰ}
 use Rattle.std.specs.Prelude.{◌≡◌, ℕ, ◌<◌}
 use Rattle.profiles.specs.Profiles.{couple_sizes}

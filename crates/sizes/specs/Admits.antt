@@ -1,5 +1,5 @@
 -- Exactly the sizes of the table that is counted out (specs/Profiles.antt of profiles) pass the three tests. The one way goes by what specs/Listed.antt shows
--- of every profile, the other by specs/Counted.antt of profiles. Rests on Tests and Listed, and on Entered and Counted of profiles.
+-- of every profile, the other by proofs/Counted.antt of profiles. Rests on Tests and Listed, and on Entered and Counted of profiles.
 use Rattle.std.specs.Prelude.{◌≡◌, true, ◌&&◌, ℕ, ◌≤◌, leb}
 use Rattle.std.proofs.Common.{sym, leb-true}
 use Rattle.std.proofs.Math.Path.{subst}

@@ -1,5 +1,5 @@
 -- Every size that is counted out passes the tests; how many sizes the turbo profile has; and what the code's proofs need of the tests. Computed for every
--- entry but the turbo one, where it is shown. (That every size that passes is counted out, specs/Counted.antt of profiles shows.) Rests on Tests, and on Entered and
+-- entry but the turbo one, where it is shown. (That every size that passes is counted out, proofs/Counted.antt of profiles shows.) Rests on Tests, and on Entered and
 -- Counted of profiles.
 use Rattle.std.specs.Prelude.{◌≡◌, refl, Bool, true, ◌&&◌, ℕ, max, ◌+◌, ◌*◌, ◌/◌, ◌<◌, ltb, eqb, length}
 use Rattle.std.proofs.Common.{sym, ◌∙◌, mul-pos, mul-le-mul_right, le_of_lt, arith, le-leb, ltb-true, eqb-true}

@@ -1,5 +1,6 @@
 -- How far a burst in the channel is spread: where its bytes come out of a started deinterleaver, whatever the calls, and how far apart. For both kinds
 -- at once, and over bytes of any type.
+-- Here stand the definitions; what is said of them is proved in proofs/Burst.antt.
 use Rattle.std.specs.Prelude.{ℕ, List}
 use Rattle.laws.specs.declared.Way.TheVariants.{Deinterleaver}
 use Rattle.delay.specs.Numbered.{numbered}

@@ -1,5 +1,6 @@
 -- Condition 3, for both kinds at once: calls cut anywhere are one run; what comes out of a started machine, and of the two one behind the other.
 -- Over bytes of any type, and with no bound on how many.
+-- Here stand the definitions; what is said of them is proved in proofs/Condition3.antt.
 use Rattle.std.specs.Prelude.{◌≡◌, List}
 use Rattle.laws.specs.declared.Way.{Way}
 use Rattle.kinds.specs.declared.Stream.{Stream}

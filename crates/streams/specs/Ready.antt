@@ -1,5 +1,6 @@
 -- A machine that is ready stays ready: the next call is refused only where its lengths differ. And where the record of a started machine stands
 -- after so many bytes. Over bytes of any type.
+-- Here stand the definitions; what is said of them is proved in proofs/Ready.antt.
 use Rattle.std.specs.Prelude.{ℕ, suc, ◌-◌, ◌*◌, ◌/◌, ◌%◌, ◌≤◌, ◌<◌, true, ◌≡◌, List, length, get_or}
 use Rattle.laws.specs.declared.Way.{Way}
 use Rattle.delay.specs.Machine.{branch_of}

@@ -1,4 +1,5 @@
 -- What stands behind each return of judging a block, behind a block that was judged, and behind a table that was filled. Over a block of any length.
+-- Here stand the definitions; what is said of them is proved in proofs/Passed.antt.
 use Rattle.std.specs.Prelude.{ℕ, ◌≤◌, ◌<◌, List, ◌≡◌, length}
 use Rattle.laws.specs.Loop.{by, Within}
 use Rattle.sets.specs.declared.Set.{Set}

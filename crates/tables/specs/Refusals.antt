@@ -1,5 +1,6 @@
 -- The refusals of a call on a block of so many, in the sentences of document 01, of request 4 for 16 and of requests 6 and 12 for 11 and 10, in their order, and
 -- without 8, by request 7: 1, 2, 3, 16, 11, 10, 5, 6. A number is said exactly when its sentence is the first that holds, and then every buffer is what it was.
+-- Here stand the definitions; what is said of them is proved in proofs/Refusals.antt.
 use Rattle.std.specs.Prelude.{ℕ, List, [], ◌∷◌, ◌++◌, ◌≢◌}
 use Rattle.laws.specs.Sentences.{Sentence, sentence}
 use Rattle.sets.specs.declared.Set.{Set}

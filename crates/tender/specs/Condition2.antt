@@ -66,7 +66,7 @@ served_walk way w room l n h = walk_served way w room (walkable_listed way w.set
 pub served_address : (way : Way) (s : Set) (x : ℕ) → Listed s → x < s.n → found_of way s x ≡ done ((rule_in way s).l x)
 served_address way s x l h = address_served way s x ((admits s).0 l) h
 
--- .. and a block of as many symbols as it must have, into as many, is moved (symbolsOf: N, or of profile 9 2N, below)
+-- .. and a block of as many symbols as it must have, into as many, is moved (symbols_of: N, or of profile 9 2N, below)
 pub served_block : (s : Set) {i o : ℕ} → Listed s → i ≡ symbols_of s → o ≡ symbols_of s → moved_of s (symbols_of s) i o ≡ done tt
 served_block s l i o = block_served s (symbols_of s) ((admits s).0 l) i o
 

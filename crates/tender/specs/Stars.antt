@@ -1,6 +1,7 @@
 -- The starred cases of document 01, "Checked by hand", K 40 as change request 1 mends it and K 200 beside it, and those of requests 6 and 12, in one proved table,
 -- over the definitions that the public contracts cite, and a second table of ours for what these leave out. A row says a question, a set, an
 -- argument and the numbers that are expected. `refl` at its end: the definitions compute to those numbers.
+-- Here stand the definitions; what is said of them is proved in proofs/Stars.antt.
 use Rattle.std.specs.Prelude.{ℕ, ◌-◌, ◌≤◌, cond, List, [], ◌∷◌, ◌≡◌, refl, length, take, drop}
 use Rattle.std.proofs.Common.{ap, arith}
 use Rattle.laws.specs.Euclid.{gcd_in, gcd}

@@ -1,5 +1,6 @@
 -- Behind the test of a set: a refused set is refused by every call, and of an accepted one what its leaf says is the answer; of an address, where the
 -- position is below N.
+-- Here stand the definitions; what is said of them is proved in proofs/Passed.antt.
 use Rattle.std.specs.Prelude.{◌+◌}
 use Rattle.laws.specs.Walk.{Counts}
 use Rattle.walks.specs.declared.Walk.{Walk}

@@ -1,5 +1,6 @@
 -- The refusals of the calls on a set in the sentences of document 01, of request 4 for 16 and of requests 6 and 12 for 11 and 10, in their order, and without 8, by
 -- request 7: 1, 2, 3, 16, 11, 10, 4, 9. A number is said exactly when its sentence is the first that holds, and then the slice is what it was.
+-- Here stand the definitions; what is said of them is proved in proofs/Refusals.antt.
 use Rattle.std.specs.Prelude.{ℕ, ◌≤◌, ◌<◌, List, [], ◌∷◌, ◌++◌, ◌⊎◌, ◌≡◌}
 use Rattle.laws.specs.declared.Way.{Way}
 use Rattle.laws.specs.declared.Way.TheVariants.{Deinterleaver}
