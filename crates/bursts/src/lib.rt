@@ -6,8 +6,8 @@ pub mod picture; // picture.rt: as an SVG
 
 ghost use Rattle.std.specs.Prelude.{◌≤◌};
 
-use system::System;
-use words::text::{To, say, write};
+use system::{STDOUT_FILENO, System};
+use words::text::{say, write};
 
 // The longest burst that is shown.
 pub const LONGEST: u32 = 1024;
@@ -27,11 +27,11 @@ fn least(system: System, kind: u32, at: u32, n: u32) {
     if n > 1 {
         say(
             system,
-            To::Output,
+            STDOUT_FILENO,
             b"least distance ",
             channel::nearest(kind, at, n),
         );
         return;
     }
-    write(system, To::Output, b"least distance none");
+    write(system, STDOUT_FILENO, b"least distance none");
 }

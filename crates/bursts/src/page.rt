@@ -1,7 +1,7 @@
 // A burst as a table: each of its bytes and the place where it comes out, a line each; then the least distance between any two of them.
 use super::{least, limited};
-use system::System;
-use words::text::{To, put, put_number, write};
+use system::{STDOUT_FILENO, System};
+use words::text::{put, put_number, write};
 
 fn lines(system: System, kind: u32, at: u32, n: u32) {
     let mut room = [0u8; 4096];
@@ -22,5 +22,5 @@ pub fn table(system: System, kind: u32, at: u32, length: u32) {
     let n = limited(length);
     lines(system, kind, at, n);
     least(system, kind, at, n);
-    write(system, To::Output, b"\n");
+    write(system, STDOUT_FILENO, b"\n");
 }

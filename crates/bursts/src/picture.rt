@@ -6,8 +6,8 @@ ghost use Rattle.std.specs.Prelude.{◌≤◌};
 use super::{least, limited};
 use kinds::Stream;
 use kinds::sizes::Sizes;
-use system::System;
-use words::text::{To, put, put_number, say, write};
+use system::{STDOUT_FILENO, System};
+use words::text::{put, put_number, say, write};
 
 // The number that goes with a kind.
 fn by(kind: u32, dvb: u64, atsc: u64) -> u64 {
@@ -72,14 +72,14 @@ fn places(system: System, kind: u32, at: u32, n: u32, before: &[u8], behind: &[u
 fn numbers(system: System, kind: u32, at: u32, n: u32) {
     write(
         system,
-        To::Output,
+        STDOUT_FILENO,
         b"<g font-family=\"sans-serif\" fill=\"#444\" font-size=\"36\"",
     );
     if kind == Stream::DVB {
-        write(system, To::Output, b" text-anchor=\"middle\">");
+        write(system, STDOUT_FILENO, b" text-anchor=\"middle\">");
         places(system, kind, at, n, b"<text x=\"", b"\" y=\"490\">");
     } else {
-        write(system, To::Output, b">");
+        write(system, STDOUT_FILENO, b">");
         places(
             system,
             kind,
@@ -89,19 +89,19 @@ fn numbers(system: System, kind: u32, at: u32, n: u32) {
             b" 465)rotate(90)\" y=\"13\">",
         );
     }
-    write(system, To::Output, b"</g>\n");
+    write(system, STDOUT_FILENO, b"</g>\n");
 }
 
 // A bar across the picture.
 fn bar(system: System, top: u64, width: u64) {
     say(
         system,
-        To::Output,
+        STDOUT_FILENO,
         b"<rect fill=\"#fff\" stroke=\"#999\" stroke-width=\"4\" x=\"-5\" height=\"100\" y=\"",
         top,
     );
-    say(system, To::Output, b"\" width=\"", width);
-    write(system, To::Output, b"\"/>\n");
+    say(system, STDOUT_FILENO, b"\" width=\"", width);
+    write(system, STDOUT_FILENO, b"\"/>\n");
 }
 
 // The burst's bytes, in words.
@@ -110,11 +110,11 @@ fn bytes(system: System, at: u32, n: u32)
 {
     let from = at as u64;
     if n > 1 {
-        say(system, To::Output, b"bytes ", from);
-        say(system, To::Output, b" to ", from + n as u64 - 1);
+        say(system, STDOUT_FILENO, b"bytes ", from);
+        say(system, STDOUT_FILENO, b" to ", from + n as u64 - 1);
         return;
     }
-    say(system, To::Output, b"byte ", from);
+    say(system, STDOUT_FILENO, b"byte ", from);
 }
 
 // What the two bars are.
@@ -123,27 +123,32 @@ fn captions(system: System, kind: u32, at: u32, n: u32)
 {
     write(
         system,
-        To::Output,
+        STDOUT_FILENO,
         b"<g font-family=\"sans-serif\" fill=\"#444\" font-size=\"50\"><text y=\"-30\">channel: ",
     );
     bytes(system, at, n);
-    say(system, To::Output, b"</text><text y=\"", by(kind, 560, 700));
-    write(system, To::Output, b"\">out of the deinterleaver: ");
+    say(
+        system,
+        STDOUT_FILENO,
+        b"</text><text y=\"",
+        by(kind, 560, 700),
+    );
+    write(system, STDOUT_FILENO, b"\">out of the deinterleaver: ");
     least(system, kind, at, n);
-    write(system, To::Output, b"</text></g>\n");
+    write(system, STDOUT_FILENO, b"</text></g>\n");
 }
 
 // The title.
 fn title(system: System, kind: u32) {
-    write(system, To::Output, b"<title>");
+    write(system, STDOUT_FILENO, b"<title>");
     if kind == Stream::DVB {
-        write(system, To::Output, b"DVB");
+        write(system, STDOUT_FILENO, b"DVB");
     } else {
-        write(system, To::Output, b"ATSC");
+        write(system, STDOUT_FILENO, b"ATSC");
     }
     write(
         system,
-        To::Output,
+        STDOUT_FILENO,
         b": a burst in the channel, and where its bytes come out of the deinterleaver</title>\n",
     );
 }
@@ -161,13 +166,18 @@ fn head(system: System, kind: u32, at: u32, n: u32)
     let width = units(kind, n as u64 + longest_delay(kind));
     say(
         system,
-        To::Output,
+        STDOUT_FILENO,
         b"<svg xmlns=\"http://www.w3.org/2000/svg\" width=\"640\" height=\"",
         by(kind, 190, 230),
     );
-    say(system, To::Output, b"\" viewBox=\"-110 -100 ", width + 220);
-    say(system, To::Output, b" ", by(kind, 700, 840));
-    write(system, To::Output, b"\">\n");
+    say(
+        system,
+        STDOUT_FILENO,
+        b"\" viewBox=\"-110 -100 ",
+        width + 220,
+    );
+    say(system, STDOUT_FILENO, b" ", by(kind, 700, 840));
+    write(system, STDOUT_FILENO, b"\">\n");
     title(system, kind);
     bar(system, 0, width + 10);
     bar(system, 350, width + 10);
@@ -184,11 +194,11 @@ pub fn picture(system: System, kind: u32, at: u32, length: u32) {
     }
     say(
         system,
-        To::Output,
+        STDOUT_FILENO,
         b"<path fill=\"none\" stroke=\"#046\" stroke-width=\"",
         by(kind, 6, 3),
     );
-    write(system, To::Output, b"\" d=\"");
+    write(system, STDOUT_FILENO, b"\" d=\"");
     strokes(system, kind, at, n);
-    write(system, To::Output, b"\"/>\n</svg>\n");
+    write(system, STDOUT_FILENO, b"\"/>\n</svg>\n");
 }

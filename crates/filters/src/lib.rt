@@ -8,16 +8,15 @@ pub mod streamed; // streamed.rt: a byte stream, in whatever lengths reads give
 
 ghost use Rattle.io.specs.Counts.{IsPrefixLen};
 
-use system::System;
-use words::text::To;
+use system::{STDERR_FILENO, STDOUT_FILENO, System};
 
 fn refused(system: System, number: u32, size: u32) {
-    words::text::say_refusal(system, To::Errors, number, size);
+    words::text::say_refusal(system, STDERR_FILENO, number, size);
 }
 
 // Writes a part of the output. Answers whether it could.
 fn write_out(system: System, out: &[u8]) -> bool {
-    words::text::write(system, To::Output, out)
+    words::text::write(system, STDOUT_FILENO, out)
 }
 
 // Reads once, in whatever length the read gives: 0 at the end of the input, and where the read fails, which is said.

@@ -5,8 +5,7 @@ pub mod lists; // lists.rt: the test of a set, addresses
 pub mod picture; // picture.rt: a permutation as an SVG
 pub mod admitted; // admitted.rt: what each profile admits
 
-use system::System;
-use words::text::To;
+use system::{STDOUT_FILENO, System};
 
 // No list is longer.
 const LONGEST: usize = 6144;
@@ -16,10 +15,10 @@ fn wide(x: u16) -> u64 {
 }
 
 fn say(system: System, words: &[u8]) {
-    words::text::write(system, To::Output, words);
+    words::text::write(system, STDOUT_FILENO, words);
 }
 
 // Words and a number, in the middle of a line.
 fn say_number(system: System, words: &[u8], n: u64) {
-    words::text::say(system, To::Output, words, n);
+    words::text::say(system, STDOUT_FILENO, words, n);
 }

@@ -6,12 +6,11 @@ use super::{LONGEST, say, say_number, wide};
 use laws::Way;
 use lte::Given;
 use sets::{Refusal, Set, Verdict};
-use system::System;
+use system::{STDOUT_FILENO, System};
 use walks::{Found, Walk, Walked};
-use words::text::To;
 
-pub fn refused(system: System, to: To, x: Refusal) {
-    words::text::say_refusal(system, to, x.number, x.size);
+pub fn refused(system: System, fd: i32, x: Refusal) {
+    words::text::say_refusal(system, fd, x.number, x.size);
 }
 
 // The first n addresses of a slice, one a line.
@@ -32,7 +31,7 @@ fn addresses(system: System, slots: &[u16], n: u32) {
 // A walk's addresses, or its refusal.
 fn walked(system: System, w: Walked, slots: &[u16]) {
     match w {
-        Walked::Refused(x) => refused(system, To::Output, x),
+        Walked::Refused(x) => refused(system, STDOUT_FILENO, x),
         Walked::Done {
             written,
             next: _,
@@ -44,7 +43,7 @@ fn walked(system: System, w: Walked, slots: &[u16]) {
 // `test`: accepted, or the refusal.
 pub fn test(system: System, set: Set) {
     match sets::test(set) {
-        Verdict::Refused(x) => refused(system, To::Output, x),
+        Verdict::Refused(x) => refused(system, STDOUT_FILENO, x),
         Verdict::Accepted => say(system, b"accepted\n"),
     }
 }
@@ -52,10 +51,10 @@ pub fn test(system: System, set: Set) {
 // `factors`: f1 and f2 of a size of LTE.
 pub fn factors(system: System, k: u32) {
     match lte::factors(k) {
-        Given::Refused(x) => refused(system, To::Output, x),
+        Given::Refused(x) => refused(system, STDOUT_FILENO, x),
         Given::Of(f) => {
             say_number(system, b"", f.first as u64);
-            words::text::say_line(system, To::Output, b" ", f.second as u64);
+            words::text::say_line(system, STDOUT_FILENO, b" ", f.second as u64);
         }
     }
 }
@@ -69,8 +68,8 @@ pub fn list(system: System, way: Way, set: Set) {
 
 fn found(system: System, f: Found) {
     match f {
-        Found::Refused(x) => refused(system, To::Output, x),
-        Found::At(a) => words::text::say_line(system, To::Output, b"", a as u64),
+        Found::Refused(x) => refused(system, STDOUT_FILENO, x),
+        Found::At(a) => words::text::say_line(system, STDOUT_FILENO, b"", a as u64),
     }
 }
 
@@ -97,7 +96,7 @@ fn walk_into(system: System, w: Walk, slots: &mut [u16]) {
     {
         say_number(system, b"written ", written as u64);
         say_number(system, b" next ", next.cell as u64);
-        words::text::say_line(system, To::Output, b" cells ", cells as u64);
+        words::text::say_line(system, STDOUT_FILENO, b" cells ", cells as u64);
     }
 }
 

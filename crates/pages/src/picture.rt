@@ -4,9 +4,9 @@ ghost use Rattle.std.specs.Prelude.{◌≤◌};
 
 use super::{LONGEST, lists, say, say_number, wide};
 use sets::{Factors, Set};
-use system::System;
+use system::{STDOUT_FILENO, System};
 use walks::{Walk, Walked};
-use words::text::{To, put, put_number};
+use words::text::{put, put_number};
 
 fn limited(n: u32) -> u64
     ensures { result ≤ 6144 }
@@ -136,7 +136,7 @@ pub fn picture(system: System, set: Set) {
     let mut table = [0u16; LONGEST];
     let w = walks::walk_l(Walk { set, cell: 0 }, &mut table);
     match w {
-        Walked::Refused(x) => lists::refused(system, To::Output, x),
+        Walked::Refused(x) => lists::refused(system, STDOUT_FILENO, x),
         Walked::Done {
             written,
             next: _,

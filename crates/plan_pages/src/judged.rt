@@ -1,22 +1,22 @@
 // `judge`: a line for each plan of a file.
 use super::{ROOM, read, refused};
 use plans::judging::{Counted, Judged};
-use system::System;
-use words::text::{To, say, say_line, write};
+use system::{STDOUT_FILENO, System};
+use words::text::{say, say_line, write};
 
 // The line of a plan: whether its list is L, and if it isn't, the first wrong position and how many are wrong.
 fn show(system: System, plan: u32, j: Judged) {
-    say(system, To::Output, b"plan ", plan as u64);
+    say(system, STDOUT_FILENO, b"plan ", plan as u64);
     match j {
         Judged::Equal => {
-            write(system, To::Output, b" equal\n");
+            write(system, STDOUT_FILENO, b" equal\n");
         }
         Judged::Wrong { first, count } => {
-            say(system, To::Output, b" wrong ", first as u64);
-            say_line(system, To::Output, b" ", count as u64);
+            say(system, STDOUT_FILENO, b" wrong ", first as u64);
+            say_line(system, STDOUT_FILENO, b" ", count as u64);
         }
         Judged::Refused(x) => {
-            write(system, To::Output, b" ");
+            write(system, STDOUT_FILENO, b" ");
             refused(system, x);
         }
     }

@@ -7,15 +7,14 @@ pub mod written; // written.rt: the file of given sets
 
 use files::Got;
 use sets::Refusal;
-use system::System;
-use words::text::To;
+use system::{STDOUT_FILENO, System};
 
 // A byte more than a file may have, so that a longer one is seen to be.
 const ROOM: usize = 65537;
 
 // Says a refusal, as an answer.
 fn refused(system: System, x: Refusal) {
-    words::text::say_refusal(system, To::Output, x.number, x.size);
+    words::text::say_refusal(system, STDOUT_FILENO, x.number, x.size);
 }
 
 // Reads the file that argument i names, and answers how many bytes came. Of a file that can't be read none did, and that is not of the form.

@@ -2,9 +2,8 @@
 use numbers::Number;
 use plans::writing::{Length, Written};
 use sets::Refusal;
-use system::System;
+use system::{STDERR_FILENO, STDOUT_FILENO, System};
 use words::arguments::LONGEST;
-use words::text::To;
 
 // The numbers of one set more than a file may have, so that too many are seen to be.
 const NUMBERS: usize = 51;
@@ -16,7 +15,7 @@ const FIRST: usize = 2;
 const BYTES: usize = 65536;
 
 fn refused(system: System, x: Refusal) {
-    words::text::say_refusal(system, To::Errors, x.number, x.size);
+    words::text::say_refusal(system, STDERR_FILENO, x.number, x.size);
 }
 
 // The number that argument i says.
@@ -54,7 +53,7 @@ fn take_numbers(system: System, numbers: &mut [u32], count: usize) -> bool {
 fn write_bytes(system: System, numbers: &[u32], out: &mut [u8]) {
     match plans::writing::write(numbers, out) {
         Written::Done => {
-            words::text::write(system, To::Output, out);
+            words::text::write(system, STDOUT_FILENO, out);
         }
         Written::Refused(x) => refused(system, x),
     }

@@ -5,16 +5,16 @@ use combine::Reading;
 use figures::decimal::{PLACES, spell_f32};
 use figures::{Got, VALUES};
 use sets::{Refusal, Set};
-use system::System;
+use system::{STDOUT_FILENO, System};
 use tables::{LARGE, Moved};
 use words::arguments::LONGEST;
-use words::text::{ROOM, To, put, put_number};
+use words::text::{ROOM, put, put_number};
 
 // The arguments before the files, but for named words: `combine`, PROFILE, BITS and N.
 pub const BEFORE: usize = 4;
 
 fn refused(system: System, x: Refusal) {
-    words::text::say_refusal(system, To::Output, x.number, x.size);
+    words::text::say_refusal(system, STDOUT_FILENO, x.number, x.size);
 }
 
 // Whether a reception was added, or else its refusal.

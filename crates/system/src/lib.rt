@@ -9,6 +9,11 @@ use std::env::{Env, FillError};
 use std::fs::File;
 use std::io::{Error, ErrorKind, Print, Read, Result};
 
+// The descriptors of standard output and standard error.
+pub const STDOUT_FILENO: i32 = 1;
+
+pub const STDERR_FILENO: i32 = 2;
+
 // What a program is started with.
 #[derive(Clone, Copy)]
 pub struct System {

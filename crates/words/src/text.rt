@@ -2,29 +2,26 @@
 ghost use Rattle.words.specs.Gathered.{Put, PutNumber};
 
 use lines::first;
-use std::io::Result;
-use system::System;
+use std::io::{Error, ErrorKind, Result};
+use system::{STDERR_FILENO, STDOUT_FILENO, System};
 
 // The room that text is gathered in.
 pub const ROOM: usize = 4096;
 
-// Where text goes: to standard output, or to standard error.
-#[derive(Clone, Copy)]
-pub enum To {
-    Output,
-    Errors,
-}
-
-fn send(system: System, to: To, s: &[u8]) -> Result<()> {
-    match to {
-        To::Output => system.print(s),
-        To::Errors => system.tell(s),
+// Std writes to no other descriptor: a write to one fails.
+fn send(system: System, fd: i32, s: &[u8]) -> Result<()> {
+    if fd == STDOUT_FILENO {
+        return system.print(s);
     }
+    if fd == STDERR_FILENO {
+        return system.tell(s);
+    }
+    Err(Error::new(ErrorKind::InvalidInput, "Bad file descriptor"))
 }
 
 // Writes s, and says so where that fails.
-pub fn write(system: System, to: To, s: &[u8]) -> bool {
-    match send(system, to, s) {
+pub fn write(system: System, fd: i32, s: &[u8]) -> bool {
+    match send(system, fd, s) {
         Ok(()) => true,
         Err(e) => {
             system.fail(b"interleaver: writing", e);
@@ -44,7 +41,7 @@ pub fn put(system: System, room: &mut [u8; ROOM], from: usize, s: &[u8]) -> usiz
     }
     while i < s.len() {
         if at >= ROOM {
-            write(system, To::Output, room);
+            write(system, STDOUT_FILENO, room);
             at = 0;
         }
         room[at] = s[i];
@@ -65,28 +62,28 @@ pub fn put_number(system: System, room: &mut [u8; ROOM], from: usize, n: u64) ->
 
 // Writes what waits.
 pub fn flush(system: System, room: &[u8; ROOM], at: usize) {
-    write(system, To::Output, first(room, at));
+    write(system, STDOUT_FILENO, first(room, at));
 }
 
 // Writes words and a number.
-pub fn say(system: System, to: To, words: &[u8], n: u64) {
+pub fn say(system: System, fd: i32, words: &[u8], n: u64) {
     let mut digits = [0u8; 20];
     let k = io::decimal(n, &mut digits);
-    write(system, to, words);
-    write(system, to, &digits[..k]);
+    write(system, fd, words);
+    write(system, fd, &digits[..k]);
 }
 
 // Writes words, a number and the line's end.
-pub fn say_line(system: System, to: To, words: &[u8], n: u64) {
-    say(system, to, words, n);
-    write(system, to, b"\n");
+pub fn say_line(system: System, fd: i32, words: &[u8], n: u64) {
+    say(system, fd, words, n);
+    write(system, fd, b"\n");
 }
 
 // Writes the line of a refusal: its number, and behind 3 the size that would have fitted, which is 0 where there is none.
-pub fn say_refusal(system: System, to: To, number: u32, size: u32) {
+pub fn say_refusal(system: System, fd: i32, number: u32, size: u32) {
     if number == 3 {
-        say_line(system, to, b"refused 3 ", size as u64);
+        say_line(system, fd, b"refused 3 ", size as u64);
     } else {
-        say_line(system, to, b"refused ", number as u64);
+        say_line(system, fd, b"refused ", number as u64);
     }
 }
