@@ -104,7 +104,8 @@ overflow_add-row c =
 
 pub overflow_add-i : goal.overflow_add-i
 overflow_add-i c =
-    omega (arith, (let stop_le_here : c.loop-i.stop ≤ c.least-count.result = omega (arith, c.loop-i.invariant.1) in stop_le_here), c.least-count.ensures, c.requires.small, div-le_self c.args.n c.args.d)
+    let stop_le : c.loop-i.stop ≤ c.least-count.result = omega (arith, c.loop-i.invariant.1) in
+    omega (arith, stop_le, c.least-count.ensures, c.requires.small, div-le_self c.args.n c.args.d)
 
 pub least-stop-requires-in-loop-i : goal.least-stop-requires-in-loop-i
 least-stop-requires-in-loop-i c = tt

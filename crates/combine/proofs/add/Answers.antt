@@ -12,10 +12,16 @@ pub returns-then-is_coupled : goal.returns-then-is_coupled
 returns-then-is_coupled c = let a = couples_refused _ _ _ (sym c.is_coupled.ensures ∙ c.if-is_coupled.true) c.refusal_of.ensures in record { answer = a.answer; sums = a.sums; counts = a.counts }
 
 pub add_judged-requires : goal.add_judged-requires
-add_judged-requires c = record { plain = (let plain_here : is_coupled (family_of (c).args.set) ≡ false = sym c.is_coupled.ensures ∙ c.if-is_coupled.false in plain_here); judged_so = judged_so _ _ _ _ (sym (let says_here : say_moved c.judge.result ≡ moved_of (c).args.set (c).args.set.n (input_of (c).args.set (reception (c).args.received.now (c).args.present.now) (kept (c).args.sums.now (c).args.counts.now)) (output_of (c).args.set (reception (c).args.received.now (c).args.present.now) (kept (c).args.sums.now (c).args.counts.now)) = said_so (c).args.set (reception (c).args.received.now (c).args.present.now) (kept (c).args.sums.now (c).args.counts.now) (let plain_here : is_coupled (family_of (c).args.set) ≡ false = sym c.is_coupled.ensures ∙ c.if-is_coupled.false in plain_here) c.off-input.ensures c.off-output.ensures c.judge.ensures in says_here) ∙ ap say_moved c.in-Done.is) }
+add_judged-requires c =
+    let plain' : is_coupled (family_of c.args.set) ≡ false = sym c.is_coupled.ensures ∙ c.if-is_coupled.false in
+    let says : say_moved c.judge.result ≡ moved_of c.args.set c.args.set.n (input_of c.args.set (reception c.args.received.now c.args.present.now) (kept c.args.sums.now c.args.counts.now)) (output_of c.args.set (reception c.args.received.now c.args.present.now) (kept c.args.sums.now c.args.counts.now)) = said_so c.args.set (reception c.args.received.now c.args.present.now) (kept c.args.sums.now c.args.counts.now) plain' c.off-input.ensures c.off-output.ensures c.judge.ensures in
+    record { plain = plain'; judged_so = judged_so _ _ _ _ (sym says ∙ ap say_moved c.in-Done.is) }
 
 pub returns-in-Refused : goal.returns-in-Refused
-returns-in-Refused c = let e = sym (ap say_moved c.in-Refused.is) ∙ (let says_here : say_moved c.judge.result ≡ moved_of (c).args.set (c).args.set.n (input_of (c).args.set (reception (c).args.received.now (c).args.present.now) (kept (c).args.sums.now (c).args.counts.now)) (output_of (c).args.set (reception (c).args.received.now (c).args.present.now) (kept (c).args.sums.now (c).args.counts.now)) = said_so (c).args.set (reception (c).args.received.now (c).args.present.now) (kept (c).args.sums.now (c).args.counts.now) (let plain_here : is_coupled (family_of (c).args.set) ≡ false = sym c.is_coupled.ensures ∙ c.if-is_coupled.false in plain_here) c.off-input.ensures c.off-output.ensures c.judge.ensures in says_here) in let a = block_refused _ _ _ (let plain_here : is_coupled (family_of (c).args.set) ≡ false = sym c.is_coupled.ensures ∙ c.if-is_coupled.false in plain_here) e in record { answer = a.answer; sums = a.sums; counts = a.counts }
+returns-in-Refused c =
+    let plain : is_coupled (family_of c.args.set) ≡ false = sym c.is_coupled.ensures ∙ c.if-is_coupled.false in
+    let says : say_moved c.judge.result ≡ moved_of c.args.set c.args.set.n (input_of c.args.set (reception c.args.received.now c.args.present.now) (kept c.args.sums.now c.args.counts.now)) (output_of c.args.set (reception c.args.received.now c.args.present.now) (kept c.args.sums.now c.args.counts.now)) = said_so c.args.set (reception c.args.received.now c.args.present.now) (kept c.args.sums.now c.args.counts.now) plain c.off-input.ensures c.off-output.ensures c.judge.ensures in
+    let e = sym (ap say_moved c.in-Refused.is) ∙ says in let a = block_refused _ _ _ plain e in record { answer = a.answer; sums = a.sums; counts = a.counts }
 
 pub returns-in-Done : goal.returns-in-Done
 returns-in-Done c = let a = c.add_judged.ensures in record { answer = a.answer; sums = a.sums; counts = a.counts }

@@ -34,28 +34,12 @@ returns-then-n-u-4 c =
 
 pub returns-then-n-u-5 : goal.returns-then-n-u-5
 returns-then-n-u-5 c =
-    let p = (let past_here : let a = c.args in
-    (leb a.n a.u ≡ false)
-    × (leb a.n (2 * a.u) ≡ false)
-    × (leb a.n (4 * a.u) ≡ false)
-    × (leb a.n (8 * a.u) ≡ false) = (
-      lt-leb _ _ c.if-n-u.false,
-      lt-leb _ _ c.if-n-u-2.false,
-      lt-leb _ _ c.if-n-u-3.false,
-      lt-leb _ _ c.if-n-u-4.false,
-    ) in past_here) in
+    let past : let a = c.args in (leb a.n a.u ≡ false) × (leb a.n (2 * a.u) ≡ false) × (leb a.n (4 * a.u) ≡ false) × (leb a.n (8 * a.u) ≡ false) = (lt-leb _ _ c.if-n-u.false, lt-leb _ _ c.if-n-u-2.false, lt-leb _ _ c.if-n-u-3.false, lt-leb _ _ c.if-n-u-4.false) in
+    let p = past in
     found _ _ _ c.requires.0 (simp (p.0, p.1, p.2, p.3, le-leb _ _ c.if-n-u-5.true))
 
 pub returns : goal.returns
 returns c =
-    let p = (let past_here : let a = c.args in
-    (leb a.n a.u ≡ false)
-    × (leb a.n (2 * a.u) ≡ false)
-    × (leb a.n (4 * a.u) ≡ false)
-    × (leb a.n (8 * a.u) ≡ false) = (
-      lt-leb _ _ c.if-n-u.false,
-      lt-leb _ _ c.if-n-u-2.false,
-      lt-leb _ _ c.if-n-u-3.false,
-      lt-leb _ _ c.if-n-u-4.false,
-    ) in past_here) in
+    let past : let a = c.args in (leb a.n a.u ≡ false) × (leb a.n (2 * a.u) ≡ false) × (leb a.n (4 * a.u) ≡ false) × (leb a.n (8 * a.u) ≡ false) = (lt-leb _ _ c.if-n-u.false, lt-leb _ _ c.if-n-u-2.false, lt-leb _ _ c.if-n-u-3.false, lt-leb _ _ c.if-n-u-4.false) in
+    let p = past in
     found _ _ _ c.requires.0 (simp (p.0, p.1, p.2, p.3, lt-leb _ _ c.if-n-u-5.false))

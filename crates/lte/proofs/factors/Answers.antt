@@ -20,17 +20,26 @@ returns-then-not-is_listed c =
 pub returns : goal.returns
 unfolding given_of
 returns c =
-    let r = (let row_of_here : InTable c.args.k = in_table_lem (passes_listed _ (sym c.is_listed.ensures ∙ not-false _ (ap not c.if-not-is_listed.false))) in row_of_here) in
+    let row_of : InTable c.args.k = in_table_lem (passes_listed _ (sym c.is_listed.ensures ∙ not-false _ (ap not c.if-not-is_listed.false))) in
+    let r = row_of in
     ap done (ap₂ two
     (c.first_at.ensures ∙ ap (λ (x : ℕ). get_or firsts x 0) c.place_of-i.ensures ∙ r.first_is)
     (c.second_at.ensures ∙ ap (λ (x : ℕ). get_or seconds x 0) c.place_of-i.ensures ∙ r.second_is))
     ∙ simp (sym c.is_listed.ensures ∙ not-false _ (ap not c.if-not-is_listed.false))
 
 pub place_of-i-requires : goal.place_of-i-requires
-place_of-i-requires c = (let row_of_here : InTable c.args.k = in_table_lem (passes_listed _ (sym c.is_listed.ensures ∙ not-false _ (ap not c.if-not-is_listed.false))) in row_of_here).least
+place_of-i-requires c =
+    let row_of : InTable c.args.k = in_table_lem (passes_listed _ (sym c.is_listed.ensures ∙ not-false _ (ap not c.if-not-is_listed.false))) in
+    row_of.least
 
 pub first_at-requires : goal.first_at-requires
-first_at-requires c = (let place_in_here : c.place_of-i.result < 188 = rw c.place_of-i.ensures (let row_of_here : InTable c.args.k = in_table_lem (passes_listed _ (sym c.is_listed.ensures ∙ not-false _ (ap not c.if-not-is_listed.false))) in row_of_here).place_in in place_in_here)
+first_at-requires c =
+    let row_of : InTable c.args.k = in_table_lem (passes_listed _ (sym c.is_listed.ensures ∙ not-false _ (ap not c.if-not-is_listed.false))) in
+    let place_in' : c.place_of-i.result < 188 = rw c.place_of-i.ensures row_of.place_in in
+    place_in'
 
 pub second_at-requires : goal.second_at-requires
-second_at-requires c = (let place_in_here : c.place_of-i.result < 188 = rw c.place_of-i.ensures (let row_of_here : InTable c.args.k = in_table_lem (passes_listed _ (sym c.is_listed.ensures ∙ not-false _ (ap not c.if-not-is_listed.false))) in row_of_here).place_in in place_in_here)
+second_at-requires c =
+    let row_of : InTable c.args.k = in_table_lem (passes_listed _ (sym c.is_listed.ensures ∙ not-false _ (ap not c.if-not-is_listed.false))) in
+    let place_in' : c.place_of-i.result < 188 = rw c.place_of-i.ensures row_of.place_in in
+    place_in'

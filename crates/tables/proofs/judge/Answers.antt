@@ -8,11 +8,13 @@ use Rattle.tables.proofs.judge.Goals as goal
 
 pub returns-then-input-total : goal.returns-then-input-total
 returns-then-input-total c =
-    is_five _ _ _ _ (let accepted_here : Accepted c.args.set = clear_accepts _ (sym c.ruling_of.ensures ∙ ap say_ruled c.in-Clear.is) in accepted_here) c.length_of-total.ensures c.if-input-total.true c.refusal_of-then-input-total.ensures
+    let accepted : Accepted c.args.set = clear_accepts _ (sym c.ruling_of.ensures ∙ ap say_ruled c.in-Clear.is) in
+    is_five _ _ _ _ accepted c.length_of-total.ensures c.if-input-total.true c.refusal_of-then-input-total.ensures
 
 pub returns-then-output-total : goal.returns-then-output-total
 returns-then-output-total c =
-    is_six _ _ _ _ (let accepted_here : Accepted c.args.set = clear_accepts _ (sym c.ruling_of.ensures ∙ ap say_ruled c.in-Clear.is) in accepted_here) c.length_of-total.ensures c.if-input-total.false c.if-output-total.true c.refusal_of-then-output-total.ensures
+    let accepted : Accepted c.args.set = clear_accepts _ (sym c.ruling_of.ensures ∙ ap say_ruled c.in-Clear.is) in
+    is_six _ _ _ _ accepted c.length_of-total.ensures c.if-input-total.false c.if-output-total.true c.refusal_of-then-output-total.ensures
 
 pub returns-in-Stopped : goal.returns-in-Stopped
 returns-in-Stopped c =
@@ -21,8 +23,11 @@ returns-in-Stopped c =
 
 pub returns-else-output-total : goal.returns-else-output-total
 returns-else-output-total c =
+    let accepted : Accepted c.args.set = clear_accepts _ (sym c.ruling_of.ensures ∙ ap say_ruled c.in-Clear.is) in
     let e = c.length_of-total.ensures in
-    sym (block_served _ _ (let accepted_here : Accepted c.args.set = clear_accepts _ (sym c.ruling_of.ensures ∙ ap say_ruled c.in-Clear.is) in accepted_here) (c.if-input-total.false ∙ e) (c.if-output-total.false ∙ e))
+    sym (block_served _ _ accepted (c.if-input-total.false ∙ e) (c.if-output-total.false ∙ e))
 
 pub length_of-total-requires : goal.length_of-total-requires
-length_of-total-requires c = (let accepted_here : Accepted c.args.set = clear_accepts _ (sym c.ruling_of.ensures ∙ ap say_ruled c.in-Clear.is) in accepted_here)
+length_of-total-requires c =
+    let accepted : Accepted c.args.set = clear_accepts _ (sym c.ruling_of.ensures ∙ ap say_ruled c.in-Clear.is) in
+    accepted

@@ -8,10 +8,14 @@ use Rattle.walks.proofs.Passed.{one_refused, one_past, one_found, one_small}
 use Rattle.walks.proofs.address_by.Goals as goal
 
 pub returns-then-x-set : goal.returns-then-x-set
-returns-then-x-set c = one_past _ _ _ (let accepted_here : Accepted c.args.set = clear_accepts _ (sym c.ruling_of-v.ensures ∙ ap say_ruled c.in-Clear.is) in accepted_here) c.if-x-set.true c.refusal_of-then-x-set.ensures
+returns-then-x-set c =
+    let accepted : Accepted c.args.set = clear_accepts _ (sym c.ruling_of-v.ensures ∙ ap say_ruled c.in-Clear.is) in
+    one_past _ _ _ accepted c.if-x-set.true c.refusal_of-then-x-set.ensures
 
 pub address-requires : goal.address-requires
-address-requires c = ((let accepted_here : Accepted c.args.set = clear_accepts _ (sym c.ruling_of-v.ensures ∙ ap say_ruled c.in-Clear.is) in accepted_here), omega (arith, c.if-x-set.false))
+address-requires c =
+    let accepted : Accepted c.args.set = clear_accepts _ (sym c.ruling_of-v.ensures ∙ ap say_ruled c.in-Clear.is) in
+    (accepted, omega (arith, c.if-x-set.false))
 
 pub returns-in-Stopped : goal.returns-in-Stopped
 returns-in-Stopped c =
@@ -19,8 +23,12 @@ returns-in-Stopped c =
     ∙ one_refused _ _ _ (stopped_refuses _ (sym c.ruling_of-v.ensures ∙ ap say_ruled c.in-Stopped.is))
 
 pub returns-else-x-set : goal.returns-else-x-set
-returns-else-x-set c = one_found _ _ _ (let accepted_here : Accepted c.args.set = clear_accepts _ (sym c.ruling_of-v.ensures ∙ ap say_ruled c.in-Clear.is) in accepted_here) (omega (arith, c.if-x-set.false)) c.address.ensures
+returns-else-x-set c =
+    let accepted : Accepted c.args.set = clear_accepts _ (sym c.ruling_of-v.ensures ∙ ap say_ruled c.in-Clear.is) in
+    one_found _ _ _ accepted (omega (arith, c.if-x-set.false)) c.address.ensures
 
 pub overflow_cast-result : goal.overflow_cast-result
-overflow_cast-result c = let a = c.args in
-    omega (arith, c.address.ensures, one_small a.way a.set a.x (let accepted_here : Accepted c.args.set = clear_accepts _ (sym c.ruling_of-v.ensures ∙ ap say_ruled c.in-Clear.is) in accepted_here) (omega (arith, c.if-x-set.false)))
+overflow_cast-result c =
+    let accepted : Accepted c.args.set = clear_accepts _ (sym c.ruling_of-v.ensures ∙ ap say_ruled c.in-Clear.is) in
+    let a = c.args in
+    omega (arith, c.address.ensures, one_small a.way a.set a.x accepted (omega (arith, c.if-x-set.false)))

@@ -37,6 +37,7 @@ overflow_sub-room c = omega (arith, c.loop-j.invariant.2.room, c.loop-j.invarian
 
 pub one_column-n-requires : goal.one_column-n-requires
 one_column-n-requires c =
+    let col_room : c.args.shape.r ≤ length c.loop-j.out - c.loop-j.n = leb-true c.args.shape.r (length c.loop-j.out - c.loop-j.n) (both (eqb c.loop-j.i 0) _ c.if-i-r.true).1 in
     let z = c.requires in
     record {
       shape = z.shape;
@@ -45,8 +46,7 @@ one_column-n-requires c =
       exponents = exponents_to (eqb-true c.loop-j.i 0 (both (eqb c.loop-j.i 0) _ c.if-i-r.true).0) c.loop-j.invariant.1;
       room = omega (
         arith,
-        (let col_room_here : c.args.shape.r ≤ length c.loop-j.out - c.loop-j.n = leb-true c.args.shape.r (length c.loop-j.out - c.loop-j.n)
-            (both (eqb c.loop-j.i 0) _ c.if-i-r.true).1 in col_room_here),
+        col_room,
         z.shape.rows_is,
         rows_pos c.args.shape.k,
       );
@@ -69,6 +69,7 @@ loop-j-preserved-then-i-r c =
 
 pub one_cell-n-requires : goal.one_cell-n-requires
 one_cell-n-requires c =
+    let room_left : c.loop-j.n < length c.loop-j.out = let l = c.loop-j in let h : ¬ (length l.out - l.n ≡ 0) = c.if-room-eq0.false in omega arith in
     let z = c.requires in
     let l = c.loop-j in
     record {
@@ -77,8 +78,7 @@ one_cell-n-requires c =
       row = l.invariant.0;
       column = (column_inside c.args.shape.k c.requires.shape.cols_is c.loop-j-test.true);
       exponents = l.invariant.1;
-      room = (let room_left_here : c.loop-j.n < length c.loop-j.out = let l = c.loop-j in
-          let h : ¬ (length l.out - l.n ≡ 0) = c.if-room-eq0.false in omega arith in room_left_here);
+      room = room_left;
     }
 
 pub overflow_add-i : goal.overflow_add-i

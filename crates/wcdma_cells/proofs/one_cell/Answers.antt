@@ -33,7 +33,9 @@ pub bounds-base-i : goal.bounds-base-i
 bounds-base-i c = row_small c.requires
 
 pub overflow_add-a : goal.overflow_add-a
-overflow_add-a c = let z = c.requires in omega (arith, (let here_is_here : get_or c.args.base.now c.args.i 0 + c.entry_at-u.result ≡ plain c.args.shape.k (c.args.j * rows c.args.shape.k + c.args.i) = address_is c.requires c.wide16.result c.entry_at-u.result c.wide16.ensures c.entry_at-u.ensures in here_is_here), plain_lt c.args.shape.k (c.args.j * rows c.args.shape.k + c.args.i) (cell_inside z), cells_le c.args.shape.k)
+overflow_add-a c =
+    let here_is : get_or c.args.base.now c.args.i 0 + c.entry_at-u.result ≡ plain c.args.shape.k (c.args.j * rows c.args.shape.k + c.args.i) = address_is c.requires c.wide16.result c.entry_at-u.result c.wide16.ensures c.entry_at-u.ensures in
+    let z = c.requires in omega (arith, here_is, plain_lt c.args.shape.k (c.args.j * rows c.args.shape.k + c.args.i) (cell_inside z), cells_le c.args.shape.k)
 
 pub offset_bounds-fall-i : goal.offset_bounds-fall-i
 offset_bounds-fall-i c = omega (arith, row_small c.requires)
@@ -58,24 +60,24 @@ overflow_cast-out c = let z = c.requires.shape.size.high in omega arith
 
 pub returns-then-a-k : goal.returns-then-a-k
 returns-then-a-k c =
+    let next_exponents : Exponents c.args.shape.k (c.args.i + 1) c.args.j (set c.args.e.now c.args.i c.next_exponent.result) = let z = c.requires in exponents_down _ z.exponents z.row c.next_exponent.result (raised_is z c.next_exponent.result c.next_exponent.ensures) in
+    let here_is : get_or c.args.base.now c.args.i 0 + c.entry_at-u.result ≡ plain c.args.shape.k (c.args.j * rows c.args.shape.k + c.args.i) = address_is c.requires c.wide16.result c.entry_at-u.result c.wide16.ensures c.entry_at-u.ensures in
     let z = c.requires in
     record {
-      exponents = (let next_exponents_here : Exponents c.args.shape.k (c.args.i + 1) c.args.j
-          (set c.args.e.now c.args.i c.next_exponent.result) = let z = c.requires in
-          exponents_down _ z.exponents z.row c.next_exponent.result (raised_is z c.next_exponent.result c.next_exponent.ensures) in next_exponents_here);
-      goes = goes_put z _ (let here_is_here : get_or c.args.base.now c.args.i 0 + c.entry_at-u.result ≡ plain c.args.shape.k (c.args.j * rows c.args.shape.k + c.args.i) = address_is c.requires c.wide16.result c.entry_at-u.result c.wide16.ensures c.entry_at-u.ensures in here_is_here) c.if-a-k.true;
+      exponents = next_exponents;
+      goes = goes_put z _ here_is c.if-a-k.true;
       most = omega arith;
       same = simp length-set;
     }
 
 pub returns : goal.returns
 returns c =
+    let next_exponents : Exponents c.args.shape.k (c.args.i + 1) c.args.j (set c.args.e.now c.args.i c.next_exponent.result) = let z = c.requires in exponents_down _ z.exponents z.row c.next_exponent.result (raised_is z c.next_exponent.result c.next_exponent.ensures) in
+    let here_is : get_or c.args.base.now c.args.i 0 + c.entry_at-u.result ≡ plain c.args.shape.k (c.args.j * rows c.args.shape.k + c.args.i) = address_is c.requires c.wide16.result c.entry_at-u.result c.wide16.ensures c.entry_at-u.ensures in
     let z = c.requires in
     record {
-      exponents = (let next_exponents_here : Exponents c.args.shape.k (c.args.i + 1) c.args.j
-          (set c.args.e.now c.args.i c.next_exponent.result) = let z = c.requires in
-          exponents_down _ z.exponents z.row c.next_exponent.result (raised_is z c.next_exponent.result c.next_exponent.ensures) in next_exponents_here);
-      goes = goes_skip z _ (let here_is_here : get_or c.args.base.now c.args.i 0 + c.entry_at-u.result ≡ plain c.args.shape.k (c.args.j * rows c.args.shape.k + c.args.i) = address_is c.requires c.wide16.result c.entry_at-u.result c.wide16.ensures c.entry_at-u.ensures in here_is_here) c.if-a-k.false;
+      exponents = next_exponents;
+      goes = goes_skip z _ here_is c.if-a-k.false;
       most = omega arith;
       same = refl;
     }

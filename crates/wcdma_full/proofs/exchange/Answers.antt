@@ -7,14 +7,19 @@ use Rattle.wcdma_full.proofs.Shaped.{exchange_is, last_is, low_is}
 use Rattle.wcdma_full.proofs.exchange.Goals as goal
 
 pub overflow_sub-last : goal.overflow_sub-last
-overflow_sub-last c = (last_is c.args.shape c.requires.0 (let told_here : full c.args.shape.k ≡ true = sym c.requires.1 ∙ c.if-whole.true in told_here)).0
+overflow_sub-last c =
+    let told : full c.args.shape.k ≡ true = sym c.requires.1 ∙ c.if-whole.true in
+    (last_is c.args.shape c.requires.0 told).0
 
 pub overflow_sub-low : goal.overflow_sub-low
-overflow_sub-low c = (low_is c.args.shape c.requires.0 (let told_here : full c.args.shape.k ≡ true = sym c.requires.1 ∙ c.if-whole.true in told_here)).0
+overflow_sub-low c =
+    let told : full c.args.shape.k ≡ true = sym c.requires.1 ∙ c.if-whole.true in
+    (low_is c.args.shape c.requires.0 told).0
 
 pub returns-then-whole : goal.returns-then-whole
 returns-then-whole c =
-    exchange_is c.args.shape c.requires.0 (let told_here : full c.args.shape.k ≡ true = sym c.requires.1 ∙ c.if-whole.true in told_here) _ _ c.put.ensures c.put-then-whole.ensures
+    let told : full c.args.shape.k ≡ true = sym c.requires.1 ∙ c.if-whole.true in
+    exchange_is c.args.shape c.requires.0 told _ _ c.put.ensures c.put-then-whole.ensures
 
 pub returns-else-whole : goal.returns-else-whole
 unfolding exchange_in

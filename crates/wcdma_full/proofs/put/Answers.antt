@@ -7,10 +7,14 @@ use native.Mathlib.Omega.{arith}
 use Rattle.wcdma_full.proofs.put.Goals as goal
 
 pub returns-then-place-out : goal.returns-then-place-out
-returns-then-place-out c = rw (le-leb _ _ (let behind_here : c.args.first ≤ c.args.cell = omega (arith, c.if-first-cell.true) in behind_here))
+returns-then-place-out c =
+    let behind : c.args.first ≤ c.args.cell = omega (arith, c.if-first-cell.true) in
+    rw (le-leb _ _ behind)
 
 pub returns-else-place-out : goal.returns-else-place-out
-returns-else-place-out c = rw (le-leb _ _ (let behind_here : c.args.first ≤ c.args.cell = omega (arith, c.if-first-cell.true) in behind_here)) (sym (set_out _ _ _ c.if-place-out.false))
+returns-else-place-out c =
+    let behind : c.args.first ≤ c.args.cell = omega (arith, c.if-first-cell.true) in
+    rw (le-leb _ _ behind) (sym (set_out _ _ _ c.if-place-out.false))
 
 pub returns-else-first-cell : goal.returns-else-first-cell
 returns-else-first-cell c = let a = c.args in let h : a.cell < a.first = omega (arith, c.if-first-cell.false) in rw (lt-leb _ _ h)

@@ -11,9 +11,9 @@ pub loop-x-init : goal.loop-x-init
 loop-x-init c = (omega arith, c.requires.long, record { first = λ y h. refl; second = below_none _ })
 
 pub overflow_sub-s : goal.overflow_sub-s
-overflow_sub-s c = (let read_low_here : c.wide16.result ≤ c.args.top = let l = c.loop-x in
-    let h = c.loop-x-test.true in
-    omega (arith, c.wide16.ensures, l.invariant.2.first l.x h, c.requires.low l.x h) in read_low_here)
+overflow_sub-s c =
+    let read_low : c.wide16.result ≤ c.args.top = let l = c.loop-x in let h = c.loop-x-test.true in omega (arith, c.wide16.ensures, l.invariant.2.first l.x h, c.requires.low l.x h) in
+    read_low
 
 pub overflow_cast-s : goal.overflow_cast-s
 overflow_cast-s c = omega (arith, c.requires.small)

@@ -13,10 +13,19 @@ pub narrow-c-requires : goal.narrow-c-requires
 narrow-c-requires c = let e = c.sides_of-z.ensures in omega (arith, cols_few c.requires e.0 e.1)
 
 pub overflow_mul-cells : goal.overflow_mul-cells
-overflow_mul-cells c = let h = cells_few c.requires (let r_narrow_here : c.narrow-r.result ≡ rows c.args.k = c.narrow-r.ensures ∙ c.sides_of-z.ensures.0 in r_narrow_here) (let c_narrow_here : c.narrow-c.result ≡ cols c.args.k = c.narrow-c.ensures ∙ c.sides_of-z.ensures.1 in c_narrow_here) in search rules
+overflow_mul-cells c =
+    let r_narrow : c.narrow-r.result ≡ rows c.args.k = c.narrow-r.ensures ∙ c.sides_of-z.ensures.0 in
+    let c_narrow : c.narrow-c.result ≡ cols c.args.k = c.narrow-c.ensures ∙ c.sides_of-z.ensures.1 in
+    let h = cells_few c.requires r_narrow c_narrow in search rules
 
 pub overflow_sub-result : goal.overflow_sub-result
-overflow_sub-result c = symbols_fit c.requires (let r_narrow_here : c.narrow-r.result ≡ rows c.args.k = c.narrow-r.ensures ∙ c.sides_of-z.ensures.0 in r_narrow_here) (let c_narrow_here : c.narrow-c.result ≡ cols c.args.k = c.narrow-c.ensures ∙ c.sides_of-z.ensures.1 in c_narrow_here)
+overflow_sub-result c =
+    let r_narrow : c.narrow-r.result ≡ rows c.args.k = c.narrow-r.ensures ∙ c.sides_of-z.ensures.0 in
+    let c_narrow : c.narrow-c.result ≡ cols c.args.k = c.narrow-c.ensures ∙ c.sides_of-z.ensures.1 in
+    symbols_fit c.requires r_narrow c_narrow
 
 pub returns : goal.returns
-returns c = figures_are c.requires (let r_narrow_here : c.narrow-r.result ≡ rows c.args.k = c.narrow-r.ensures ∙ c.sides_of-z.ensures.0 in r_narrow_here) (let c_narrow_here : c.narrow-c.result ≡ cols c.args.k = c.narrow-c.ensures ∙ c.sides_of-z.ensures.1 in c_narrow_here)
+returns c =
+    let r_narrow : c.narrow-r.result ≡ rows c.args.k = c.narrow-r.ensures ∙ c.sides_of-z.ensures.0 in
+    let c_narrow : c.narrow-c.result ≡ cols c.args.k = c.narrow-c.ensures ∙ c.sides_of-z.ensures.1 in
+    figures_are c.requires r_narrow c_narrow

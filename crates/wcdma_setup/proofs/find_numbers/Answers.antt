@@ -39,24 +39,21 @@ next_q-last-requires c =
       high = c.loop-i.invariant.6;
       odd = c.loop-i.invariant.5;
       some = λ e.
-          q_found (prime_listed k) c.loop-i.i ((let few_here : c.loop-i.i < c.args.shape.r → c.loop-i.i < 20 = λ h. omega (arith, rows_le c.args.shape.k, c.requires.shape.rows_is) in few_here) c.loop-i-test.true)
+          q_found (prime_listed k) c.loop-i.i (omega (arith, rows_le k, c.requires.shape.rows_is))
           (sym (ap (λ (p : ℕ). q_of (p - 1) c.loop-i.i) c.requires.shape.prime_is) ∙ sym c.loop-i.invariant.4 ∙ e);
     }
 
 pub offset_bounds-q-i : goal.offset_bounds-q-i
-offset_bounds-q-i c = omega (arith, (let few_here : c.loop-i.i < c.args.shape.r → c.loop-i.i < 20 = λ h. omega (arith, rows_le c.args.shape.k, c.requires.shape.rows_is) in few_here) c.loop-i-test.true)
+offset_bounds-q-i c = omega (arith, rows_le c.args.shape.k, c.requires.shape.rows_is)
 
 pub bounds-q-i : goal.bounds-q-i
-bounds-q-i c = (let few_here : c.loop-i.i < c.args.shape.r → c.loop-i.i < 20 = λ h. omega (arith, rows_le c.args.shape.k, c.requires.shape.rows_is) in few_here) c.loop-i-test.true
-
-pub overflow_add-i : goal.overflow_add-i
-overflow_add-i c = omega (arith, (let few_here : c.loop-i.i < c.args.shape.r → c.loop-i.i < 20 = λ h. omega (arith, rows_le c.args.shape.k, c.requires.shape.rows_is) in few_here) c.loop-i-test.true)
+bounds-q-i c = omega (arith, rows_le c.args.shape.k, c.requires.shape.rows_is)
 
 pub loop-i-preserved : goal.loop-i-preserved
 loop-i-preserved c =
     let l = c.loop-i in
     let t = c.loop-i-test.true in
-    let f = (let few_here : c.loop-i.i < c.args.shape.r → c.loop-i.i < 20 = λ h. omega (arith, rows_le c.args.shape.k, c.requires.shape.rows_is) in few_here) t in
+    let f : l.i < 20 = omega (arith, rows_le c.args.shape.k, c.requires.shape.rows_is) in
     let n = c.next_q-last.ensures.next_is ∙ l.invariant.4 in (
       omega arith,
       omega arith,
@@ -66,8 +63,3 @@ loop-i-preserved c =
       c.next_q-last.ensures.odd,
       c.next_q-last.ensures.high,
     )
-
-pub returns : goal.returns
-returns c =
-    let z = c.requires.shape in
-    λ x h. c.loop-i.invariant.3 x (omega (arith, z.rows_is, c.loop-i.invariant.1, c.loop-i-test.false)) ∙ ap (λ (p : ℕ). q_of (p - 1) x) z.prime_is

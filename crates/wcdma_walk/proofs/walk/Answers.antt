@@ -9,16 +9,22 @@ use Rattle.wcdma_walk.proofs.Setup.{went_says}
 use Rattle.wcdma_walk.proofs.walk.Goals as goal
 
 pub overflow_mul-total : goal.overflow_mul-total
-overflow_mul-total c = omega (arith, (let total_here : c.shape_of-shape.result.r * c.shape_of-shape.result.c ≡ cells c.args.k = let e = c.shape_of-shape.ensures in shape_total _ e.1 e.0 in total_here), cells_le c.args.k)
+overflow_mul-total c =
+    let total : c.shape_of-shape.result.r * c.shape_of-shape.result.c ≡ cells c.args.k = let e = c.shape_of-shape.ensures in shape_total _ e.1 e.0 in
+    omega (arith, total, cells_le c.args.k)
 
 pub returns-then-total-cell : goal.returns-then-total-cell
-returns-then-total-cell c = leaf_past (omega (arith, c.if-total-cell.true, (let total_here : c.shape_of-shape.result.r * c.shape_of-shape.result.c ≡ cells c.args.k = let e = c.shape_of-shape.ensures in shape_total _ e.1 e.0 in total_here)))
+returns-then-total-cell c =
+    let total' : c.shape_of-shape.result.r * c.shape_of-shape.result.c ≡ cells c.args.k = let e = c.shape_of-shape.ensures in shape_total _ e.1 e.0 in
+    leaf_past (omega (arith, c.if-total-cell.true, total'))
 
 pub walk_by-requires : goal.walk_by-requires
 walk_by-requires c =
+    let total' : c.shape_of-shape.result.r * c.shape_of-shape.result.c ≡ cells c.args.k = let c = c.shape_of-shape.ensures in shape_total _ c.1 c.0 in
     let z = c.shape_of-shape.ensures in
-    record { shape = z.1; within = rw z.0 (omega (arith, c.if-total-cell.false, (let total_here : c.shape_of-shape.result.r * c.shape_of-shape.result.c ≡ cells c.args.k = let c = c.shape_of-shape.ensures in shape_total _ c.1 c.0 in total_here))) }
+    record { shape = z.1; within = rw z.0 (omega (arith, c.if-total-cell.false, total')) }
 
 pub returns : goal.returns
 returns c =
-    went_says c.args.k c.args.cell _ c.shape_of-shape.ensures.0 (omega (arith, c.if-total-cell.false, (let total_here : c.shape_of-shape.result.r * c.shape_of-shape.result.c ≡ cells c.args.k = let c = c.shape_of-shape.ensures in shape_total _ c.1 c.0 in total_here))) c.walk_by.ensures
+    let total' : c.shape_of-shape.result.r * c.shape_of-shape.result.c ≡ cells c.args.k = let c = c.shape_of-shape.ensures in shape_total _ c.1 c.0 in
+    went_says c.args.k c.args.cell _ c.shape_of-shape.ensures.0 (omega (arith, c.if-total-cell.false, total')) c.walk_by.ensures

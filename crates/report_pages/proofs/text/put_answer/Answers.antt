@@ -8,11 +8,15 @@ use Rattle.report_pages.specs.Text.{text_of, answer_text}
 use Rattle.report_pages.proofs.text.put_answer.Goals as goal
 
 pub put_report-requires : goal.put_report-requires
-put_report-requires c = ((asked_exactly _ _ _).0 (sym (let asked_here_here : done c.in-Of.r ≡ asked_by c.args.bytes.now = sym (ap say_asked c.in-Of.is) ∙ c.read.ensures in asked_here_here))).1
+put_report-requires c =
+    let asked : done c.in-Of.r ≡ asked_by c.args.bytes.now = sym (ap say_asked c.in-Of.is) ∙ c.read.ensures in
+    ((asked_exactly _ _ _).0 (sym asked)).1
 
 pub returns-in-Of : goal.returns-in-Of
 unfolding answer_text
-returns-in-Of c = put_as (ap text_of (let asked_here_here : done c.in-Of.r ≡ asked_by c.args.bytes.now = sym (ap say_asked c.in-Of.is) ∙ c.read.ensures in asked_here_here)) c.put_report.ensures
+returns-in-Of c =
+    let asked : done c.in-Of.r ≡ asked_by c.args.bytes.now = sym (ap say_asked c.in-Of.is) ∙ c.read.ensures in
+    put_as (ap text_of asked) c.put_report.ensures
 
 pub returns-in-Refused : goal.returns-in-Refused
 unfolding answer_text
