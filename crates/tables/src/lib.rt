@@ -70,7 +70,8 @@ pub fn fill(set: Set, table: &mut [u16])
     requires { Accepted set × (symbols_of set ≤ length table.old) }
     ensures { Tabled set table.new }
 {
-    leaves::walk(Way::Interleaver, set, 0, table);
+    // (from cell 0 the walk for L is never refused)
+    let _ = leaves::walk(Way::Interleaver, set, 0, table);
     if sets::is_coupled(set) {
         couples_walk::symbols::spread(set.n as usize, table);
     }
