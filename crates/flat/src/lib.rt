@@ -5,18 +5,16 @@
 pub mod records; // records.rt: the record of a byte stream
 
 ghost use Rattle.std.specs.Prelude.{◌≡◌, ℕ};
+ghost use Rattle.laws.specs.Outcome.{say};
 ghost use Rattle.sets.specs.Verdict.{say_verdict};
-ghost use Rattle.lte.specs.Factors.{say_given};
-ghost use Rattle.wcdma_report.specs.Report.{say_reported, say_summed};
 ghost use Rattle.walks.specs.Answer.{say_walked, say_found, Values};
 ghost use Rattle.tables.specs.Answer.{say_moved};
 ghost use Rattle.flat.specs.Flat.{set_of, walk_of, number_by, number_of, out_of, factors_list, figures_list, totals_list};
 
-use lte::Given;
-use sets::{Factors, Set, Verdict};
+use sets::{Factors, Refusal, Set, Verdict};
 use tables::Moved;
 use walks::{Found, Walk, Walked};
-use wcdma_report::{Reported, Summed};
+use wcdma_report::{Figures, Totals};
 
 // How many numbers a set is.
 pub const SET: usize = 8;
@@ -59,44 +57,44 @@ pub fn tested(v: Verdict) -> u32
 }
 
 // Takes the answer of the standard's factors apart.
-pub fn given(g: Given, factors: &mut [u32; FACTORS]) -> u32
-    ensures number { result ≡ number_of (say_given g) }
-    ensures factors { factors.new ≡ out_of (say_given g) factors_list factors.old }
+pub fn given(g: Result<Factors, Refusal>, factors: &mut [u32; FACTORS]) -> u32
+    ensures number { result ≡ number_of (say g) }
+    ensures factors { factors.new ≡ out_of (say g) factors_list factors.old }
 {
     match g {
-        Given::Of(f) => {
+        Ok(f) => {
             *factors = [f.first, f.second, f.third, f.fourth];
             0
         }
-        Given::Refused(x) => x.number,
+        Err(unlisted) => unlisted.number,
     }
 }
 
 // Takes the figures of one K apart.
-pub fn reported(r: Reported, figures: &mut [u32; FIGURES]) -> u32
-    ensures number { result ≡ number_of (say_reported r) }
-    ensures figures { figures.new ≡ out_of (say_reported r) figures_list figures.old }
+pub fn reported(r: Result<Figures, Refusal>, figures: &mut [u32; FIGURES]) -> u32
+    ensures number { result ≡ number_of (say r) }
+    ensures figures { figures.new ≡ out_of (say r) figures_list figures.old }
 {
     match r {
-        Reported::Of(f) => {
+        Ok(f) => {
             *figures = [f.k, f.r, f.c, f.cells, f.pads];
             0
         }
-        Reported::Refused(x) => x.number,
+        Err(x) => x.number,
     }
 }
 
 // Takes the totals of a range apart.
-pub fn summed(s: Summed, totals: &mut [u32; TOTALS]) -> u32
-    ensures number { result ≡ number_by (λ (k : ℕ). k) (say_summed s) }
-    ensures totals { totals.new ≡ out_of (say_summed s) totals_list totals.old }
+pub fn summed(s: Result<Totals, u32>, totals: &mut [u32; TOTALS]) -> u32
+    ensures number { result ≡ number_by (λ (k : ℕ). k) (say s) }
+    ensures totals { totals.new ≡ out_of (say s) totals_list totals.old }
 {
     match s {
-        Summed::Of(t) => {
+        Ok(t) => {
             *totals = [t.sizes, t.cells, t.pads];
             0
         }
-        Summed::Refused(k) => k,
+        Err(number) => number,
     }
 }
 
