@@ -14,6 +14,9 @@ ghost use Rattle.lte.specs.Table.{place_of};
 use profiles::step_by;
 use sets::{Factors, Refusal, Set};
 
+// The answer: the factors, of which f1 is the first, f2 the second and the others are 0; or the refusal.
+pub type Given = Result<Factors, Refusal>;
+
 // Whether K is listed for profile 8. (The test of a set asks `sizes::size_listed`; asked here too, it would be a function by itself, and each test of a
 // set a call dearer.)
 fn is_listed(k: u32) -> bool
@@ -49,8 +52,8 @@ fn set_of(k: u32) -> Set
     }
 }
 
-// The factors of a K: f1 is the first, f2 the second, and the others are 0. Refusal 3, where it isn't listed for profile 8.
-pub fn factors(k: u32) -> Result<Factors, Refusal>
+// The factors of a K. Refusal 3, where it isn't listed for profile 8.
+pub fn factors(k: u32) -> Given
     ensures { say result ≡ given_of k }
 {
     if !is_listed(k) {

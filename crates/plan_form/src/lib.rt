@@ -117,7 +117,7 @@ pub fn ruling_of(set: Set) -> Ruled
     ensures { say_ruled result ≡ first (planned_lines set) }
 {
     if set.profile > PROFILES {
-        return Ruled::Stopped(1);
+        return Err(1);
     }
     sets::ruling_of(set)
 }

@@ -27,6 +27,12 @@ pub struct Totals {
     pub pads: u32,
 }
 
+// The figures of one K, or the refusal.
+pub type Reported = Result<Figures, Refusal>;
+
+// The totals, or the number of the refusal.
+pub type Summed = Result<Totals, u32>;
+
 // Whether K is 40 to 5,114.
 pub fn is_size(k: u32) -> bool
     ensures { result ≡ is_size k }
@@ -72,7 +78,7 @@ fn figures_in(k: u32) -> Figures
 }
 
 // The figures of one K. Refusal 3, where it isn't 40 to 5,114.
-pub fn figures_of(k: u32) -> Result<Figures, Refusal>
+pub fn figures_of(k: u32) -> Reported
     ensures { say result ≡ figures_of k }
 {
     if !is_size(k) {
@@ -97,8 +103,8 @@ fn totals_in(first: u32, last: u32) -> Totals
     Totals { sizes, cells, pads }
 }
 
-// The totals from a first K to a last, or the number of the refusal: 3, where either isn't 40 to 5,114, or the first is above the last.
-pub fn totals_of(first: u32, last: u32) -> Result<Totals, u32>
+// The totals from a first K to a last. Refusal 3, where either isn't 40 to 5,114, or the first is above the last.
+pub fn totals_of(first: u32, last: u32) -> Summed
     ensures { say result ≡ totals_of first last }
 {
     if !is_range(first, last) {
