@@ -104,11 +104,9 @@ fn down(
     ensures { Down d n s col row from stop out.old out.new result stop }
 {
     let mut at = start;
-    let mut i = from;
-    while i < stop {
+    for i in from..stop {
         out[i] = at.address() as u16;
         at = at.next(c, s);
-        i += 1;
     }
     at
 }

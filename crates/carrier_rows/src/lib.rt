@@ -107,11 +107,9 @@ fn straight(
     ensures { Along d n 1 row col from stop out.old out.new result stop }
 {
     let mut a = start.base;
-    let mut i = from;
-    while i < stop {
+    for i in from..stop {
         out[i] = a as u16;
         a += d;
-        i += 1;
     }
     RowSpot {
         base: a,
@@ -142,11 +140,9 @@ fn along(
         return straight(d, n, row, col, start, out, from, stop);
     }
     let mut at = start;
-    let mut i = from;
-    while i < stop {
+    for i in from..stop {
         out[i] = at.address() as u16;
         at = at.next(d, s, top, group);
-        i += 1;
     }
     at
 }

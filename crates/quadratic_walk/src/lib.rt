@@ -78,11 +78,9 @@ fn write_rest(
         → Walking k f1 f2 cell count twice old out.new result count }
 {
     let mut at = start;
-    let mut i = from;
-    while i < count {
+    for i in from..count {
         out[i] = at.value as u16;
         at = at.next(k, twice);
-        i += 1;
     }
     at
 }
@@ -96,13 +94,11 @@ fn write(k: usize, f1: usize, f2: usize, cell: usize, out: &mut [u16]) -> usize
     let twice = twice_of(k, f2);
     let mut at = Spot::new(k, f1, f2, cell);
     let mut i = 0;
-    let mut fours = count / 4;
-    while fours > 0 {
+    'fours: for _ in 0..count / 4 {
         at = write_two(k, twice, at, out, i);
         i += 2;
         at = write_two(k, twice, at, out, i);
         i += 2;
-        fours -= 1;
     }
     write_rest(k, twice, at, out, i, count);
     count
@@ -138,13 +134,11 @@ pub fn place_of(k: usize, f1: usize, f2: usize, a: usize) -> usize
 {
     let twice = twice_of(k, f2);
     let mut at = Spot::new(k, f1, f2, 0);
-    let mut t = 0;
-    while t < k {
+    for t in 0..k {
         if at.value == a {
             return t;
         }
         at = at.next(k, twice);
-        t += 1;
     }
-    t
+    k
 }

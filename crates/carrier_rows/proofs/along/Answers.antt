@@ -1,4 +1,4 @@
--- `carrier_rows::along` writes L along a part of a row. The loop's invariant is the law of a lane; the measure is what is left of the part.
+-- `carrier_rows::along` writes L along a part of a row. The loop's invariant is the law of a lane.
 use native.Mathlib.Omega.{arith}
 use Rattle.laws.specs.Lanes.{going_all}
 use Rattle.carrier_rows.specs.Along.{along_first, address_small, along_step, along_next}
@@ -31,12 +31,6 @@ bounds-out-i c = omega (arith, c.requires.part.room, c.loop-i.invariant.long, c.
 
 pub next-at-requires : goal.next-at-requires
 next-at-requires c = along_step c.requires c.loop-i.invariant c.loop-i-test.true
-
-pub overflow_add-i : goal.overflow_add-i
-overflow_add-i c = omega (arith, c.loop-i-test.true)
-
-pub loop-i-smaller : goal.loop-i-smaller
-loop-i-smaller c = omega (arith, c.loop-i-test.true)
 
 pub loop-i-preserved : goal.loop-i-preserved
 loop-i-preserved c =
