@@ -1,10 +1,11 @@
 -- The walks of a spatial stream over how far it is turned: what they write on either side of the seam, and that the turn of its numbers makes them
 -- the walks of its rule. Rests on Third and Turned of crate carrier.
-use Rattle.std.specs.Prelude.{ℕ, ◌+◌, ◌-◌, ◌*◌, ◌%◌, ◌≤◌, ◌<◌, List, ◌≡◌, length, get_or}
+use Rattle.std.specs.Prelude.{ℕ, ◌+◌, ◌-◌, ◌*◌, ◌%◌, ◌≤◌, ◌<◌, List, ◌≡◌, length}
 use Rattle.std.proofs.Common.{sym, ◌∙◌, le_of_lt}
 use Rattle.std.proofs.Math.Path.{ap}
 use Rattle.std.proofs.Math.Nat.{mod-eq_of_lt, add-mod_right}
 use native.Mathlib.Omega.{arith}
+use Rattle.laws.specs.Loop.{by}
 use Rattle.laws.specs.Walk.{Rule}
 use Rattle.carrier.specs.Block.{Block, Whole, block}
 use Rattle.carrier.specs.Formula.{carrier_l, carrier_m}
@@ -42,23 +43,22 @@ pub record Spatial (b : Stream) : Type 0 where
 pub turn_in : {b : Stream} → Spatial b → turn_by b < b.n
 turn_in {b} h = turn_below b.n b.bits b.r b.stream h.first h.last h.below
 
--- the pass that takes the turn off: what it requires, and what stands at each place after it
-pub record TakenOff (n v : ℕ) (out : List ℕ) (count : ℕ) : Type 0 where
+-- the pass that takes the turn off: what it requires, and what it makes of an address
+pub record TakenOff (n v : ℕ) (out : List ℕ) : Type 0 where
   pub small : n < 65536
   pub turn_in : v < n
-  pub room : count ≤ length out
-  pub below : (y : ℕ) → y < count → get_or out y 0 < n
+  pub below : (y : ℕ) → y < length out → by out y < n
 
-abbrev pub off : ℕ → ℕ → List ℕ → ℕ → ℕ
-off n v out y = (get_or out y 0 + n - v) % n
+abbrev pub off : ℕ → ℕ → ℕ → ℕ
+off n v a = (a + n - v) % n
 
 -- one address: below the turn N is added, else the turn is taken off
-pub off_up : (n v a : ℕ) → v < n → a < v → a + (n - v) ≡ (a + n - v) % n
+pub off_up : (n v a : ℕ) → v < n → a < v → a + (n - v) ≡ off n v a
 off_up n v a h o =
     let e : a + n - v ≡ a + (n - v) = omega arith in
     sym (ap (λ (x : ℕ). x % n) e ∙ mod-eq_of_lt (let l : a + (n - v) < n = omega arith in l))
 
-pub off_down : (n v a : ℕ) → v < n → a < n → v ≤ a → a - v ≡ (a + n - v) % n
+pub off_down : (n v a : ℕ) → v < n → a < n → v ≤ a → a - v ≡ off n v a
 off_down n v a h l o =
     let e : a + n - v ≡ a - v + n = omega arith in
     sym (ap (λ (x : ℕ). x % n) e ∙ add-mod_right (a - v) n ∙ mod-eq_of_lt (let l : a - v < n = omega arith in l))
@@ -101,6 +101,6 @@ module _ (b : Stream) {v : ℕ} (e : v ≡ turn_by b) where
 pub m_lt : {b : Stream} → Spatial b → {k a : ℕ} → k < b.n → a ≡ carrier_m b.d b.n b.s k → a < b.n
 m_lt h l e = rw e ((carrier_once h.whole.size).m_below _ l)
 
-pub off_of : (b : Stream) (k : ℕ) {a : ℕ} (v : ℕ) → a ≡ carrier_m b.d b.n b.s k → (a + b.n - v) % b.n ≡ turned_m b.d b.n b.s v k
+pub off_of : (b : Stream) (k : ℕ) {a : ℕ} (v : ℕ) → a ≡ carrier_m b.d b.n b.s k → off b.n v a ≡ turned_m b.d b.n b.s v k
 unfolding turned_m
-off_of b k v e = ap (λ (a : ℕ). (a + b.n - v) % b.n) e
+off_of b k v e = ap (off b.n v) e

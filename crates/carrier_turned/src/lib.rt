@@ -4,8 +4,7 @@
 // functions are leaf functions: the crate above them tests a set first, and shows what they require.
 #![tactic(auto)]
 
-ghost use Rattle.std.specs.Prelude.{◌≡◌, ℕ, ◌+◌, ◌-◌, ◌%◌, ◌<◌};
-ghost use Rattle.laws.specs.Fill.{Filled};
+ghost use Rattle.std.specs.Prelude.{◌≡◌, ℕ, ◌+◌, ◌<◌, map};
 ghost use Rattle.laws.specs.Lanes.{Ran};
 ghost use Rattle.laws.specs.Walk.{LeafOf, back};
 ghost use Rattle.carrier_turned.specs.Turned.{turned_l, turned_m, Within, rule_by, Spatial, TakenOff, off};
@@ -46,7 +45,7 @@ fn write_l(d: usize, n: usize, s: usize, v: usize, cell: usize, out: &mut [u16])
 // An address less the turn, modulo N, which is down and up together: by comparing and adding.
 fn less(down: u16, up: u16, a: u16) -> u16
     requires { down + up < 65536 }
-    ensures { (n : ℕ) → n ≡ down + up → down < n → a < n → result ≡ (a + n - down) % n }
+    ensures { (n : ℕ) → n ≡ down + up → down < n → a < n → result ≡ off n down a }
 {
     if a < down {
         return a + up;
@@ -54,18 +53,15 @@ fn less(down: u16, up: u16, a: u16) -> u16
     a - down
 }
 
-// Takes the turn off the first addresses.
-fn take_off(n: usize, v: usize, out: &mut [u16], count: usize)
-    requires { TakenOff n v out.old count }
-    ensures { Filled (off n v out.old) 0 out.old out.new count }
+// Takes the turn off each address.
+fn take_off(n: usize, v: usize, out: &mut [u16])
+    requires { TakenOff n v out.old }
+    ensures { out.new ≡ map (off n v) out.old }
 {
     let down = v as u16;
     let up = (n - v) as u16;
-    let mut i = 0;
-    while i < count {
-        let a = out[i];
-        out[i] = less(down, up, a);
-        i += 1;
+    for a in out.iter_mut() {
+        *a = less(down, up, *a);
     }
 }
 
@@ -75,7 +71,7 @@ fn write_m(d: usize, n: usize, s: usize, v: usize, cell: usize, out: &mut [u16])
     ensures { Ran (turned_m d n s v) n cell out.old out.new result }
 {
     let count = carrier_columns::write(d, n, s, cell, out);
-    take_off(n, v, out, count);
+    take_off(n, v, &mut out[..count]);
     count
 }
 
