@@ -1,8 +1,8 @@
 -- What the pieces of a turned walk make up: of L, those on either side of the seam, which is the cell N - v; of M, the walk and the pass that takes
 -- the turn off. Rests on Turned.
-use Rattle.std.specs.Prelude.{ℕ, min, ◌+◌, ◌-◌, ◌%◌, ◌≤◌, ◌<◌, ◌≡◌, length, map, take, drop}
+use Rattle.std.specs.Prelude.{ℕ, min, ◌+◌, ◌-◌, ◌≤◌, ◌<◌, ◌≡◌, length, map, take, drop}
 use mathlib.Core.List.{List, ◌++◌, append_assoc}
-use Rattle.std.proofs.Common.{sym, ◌∙◌, zero-add, arith, length-drop, length-append, length-take-le, take_at, drop-drop}
+use Rattle.std.proofs.Common.{sym, ◌∙◌, arith, length-drop, length-append, length-take-le, take_at, drop-drop}
 use Rattle.std.proofs.Math.Path.{ap, ap₂}
 use Rattle.std.proofs.Math.Seq.{drop_at}
 use Rattle.laws.specs.Run.{run, length_run, get_or_run, run_moved, run_cut}

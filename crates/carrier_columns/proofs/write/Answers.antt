@@ -10,8 +10,8 @@ use Rattle.carrier_columns.proofs.write.Goals as goal
 pub nonzero_div-c : goal.nonzero_div-c
 nonzero_div-c c = c.requires.size.d_pos
 
-pub overflow_sub-n : goal.overflow_sub-n
-overflow_sub-n c = c.requires.cell_in
+pub overflow_sub-b : goal.overflow_sub-b
+overflow_sub-b c = c.requires.cell_in
 
 pub least-count-requires : goal.least-count-requires
 least-count-requires c = tt
@@ -28,8 +28,8 @@ new-at-requires c = set_up c.requires
 pub loop-i-init : goal.loop-i-init
 loop-i-init c = let b = c.requires in lanes_first (cell_is b) (mod-lt _ b.size.d_pos) c.new-at.ensures
 
-pub overflow_sub-d : goal.overflow_sub-d
-overflow_sub-d c = omega (arith, c.loop-i.invariant.inside c.loop-i-test.true)
+pub overflow_sub-b-in-loop-i : goal.overflow_sub-b-in-loop-i
+overflow_sub-b-in-loop-i c = omega (arith, c.loop-i.invariant.inside c.loop-i-test.true)
 
 pub overflow_add-i : goal.overflow_add-i
 overflow_add-i c =
@@ -53,12 +53,12 @@ down-end-requires c =
 pub next_column-at-requires : goal.next_column-at-requires
 next_column-at-requires c =
     let p = part c.loop-i.invariant c.loop-i-test.true c.least-stop.ensures (sym (row_whole c.requires.size)) c.least-count.ensures in
-    (c.requires.size.s_pos, c.down-end.ensures.place.low_is, omega (arith, p.lane_in, div-le_self c.args.n c.args.d, c.requires.small))
+    (c.requires.size.s_pos, c.down-end.ensures.place.low_is, omega (arith, p.lane_in, div-le_self c.args.b.n c.args.b.d, c.requires.small))
 
 pub overflow_add-col : goal.overflow_add-col
 overflow_add-col c =
     let p = part c.loop-i.invariant c.loop-i-test.true c.least-stop.ensures (sym (row_whole c.requires.size)) c.least-count.ensures in
-    omega (arith, p.lane_in, div-le_self c.args.n c.args.d, c.requires.small)
+    omega (arith, p.lane_in, div-le_self c.args.b.n c.args.b.d, c.requires.small)
 
 pub loop-i-smaller : goal.loop-i-smaller
 loop-i-smaller c =

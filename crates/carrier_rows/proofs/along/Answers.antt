@@ -6,13 +6,13 @@ use Rattle.carrier_rows.specs.Straight.{straight_in, straight_out}
 use Rattle.carrier_rows.proofs.along.Goals as goal
 
 pub straight-requires : goal.straight-requires
-straight-requires c = straight_in c.if-s-eq1.true c.requires
+straight-requires c = straight_in c.if-b-eq1.true c.requires
 
-pub shape_of-out-then-s-eq1 : goal.shape_of-out-then-s-eq1
-shape_of-out-then-s-eq1 c = c.straight.ensures.long
+pub shape_of-out-then-b-eq1 : goal.shape_of-out-then-b-eq1
+shape_of-out-then-b-eq1 c = c.straight.ensures.long
 
-pub returns-then-s-eq1 : goal.returns-then-s-eq1
-returns-then-s-eq1 c = straight_out _ _ _ c.if-s-eq1.true c.straight.ensures
+pub returns-then-b-eq1 : goal.returns-then-b-eq1
+returns-then-b-eq1 c = straight_out _ _ _ c.if-b-eq1.true c.straight.ensures
 
 pub loop-i-init : goal.loop-i-init
 loop-i-init c = along_first c.requires

@@ -1,5 +1,5 @@
 -- `carrier_turned::write_m` writes M from any cell on: the walk of the two steps, and the pass over it.
-use Rattle.carrier_turned.specs.Seam.{walk_fits, taken_off, both_passes}
+use Rattle.carrier_turned.specs.Seam.{taken_off, both_passes}
 use Rattle.carrier_turned.proofs.write_m.Goals as goal
 
 pub take_off-requires : goal.take_off-requires

@@ -1,5 +1,4 @@
 -- `quadratic_walk::write` writes L from any cell on, four positions after another, and then the rest.
-use Prim.Native.Nat.{◌+◌, ◌≤◌}
 use native.Mathlib.Nat.{le_refl}
 use native.Mathlib.Omega.{arith}
 use Rattle.laws.specs.Stepped.{stepped_first, long, room, stepped_all}

@@ -5,4 +5,4 @@ use Rattle.quadratic_walk.specs.Spot.{Walking}
 use Rattle.quadratic_walk.proofs.write.Given as goal
 
 abbrev pub invariant-fours : goal.invariant-fours
-invariant-fours l = Walking l.k l.f1 l.f2 l.cell l.count l.twice l.initial.out l.out l.at l.i × (l.i ≡ 4 * l.counter)
+invariant-fours l = Walking l.q.k l.q.f1 l.q.f2 l.cell l.count l.twice l.initial.out l.out l.at l.i × (l.i ≡ 4 * l.counter)
