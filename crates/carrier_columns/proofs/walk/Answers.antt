@@ -1,10 +1,7 @@
 -- `carrier_columns::walk` is the walk for M from any cell: 9 by its test, and else what `write` wrote.
-use Rattle.laws.specs.Leaves.{leaf_past, ran_leaf}
+use Rattle.laws.specs.Leaves.{ran_leaf}
 use Rattle.carrier.proofs.Once.{carrier_once}
 use Rattle.carrier_columns.proofs.walk.Goals as goal
-
-pub returns-then-b-cell : goal.returns-then-b-cell
-returns-then-b-cell c = leaf_past c.if-b-cell.true
 
 pub returns : goal.returns
 returns c =
