@@ -18,16 +18,16 @@ fn taken(r: Reading, sum: &mut f32, count: &mut u16) -> u32
     ensures count { count.new ≡ count_out (say_reading r) count.old }
 {
     match r {
-        Reading::Soft(held) => {
+        Ok(Some(held)) => {
             *sum = held.sum;
             *count = held.count;
             0
         }
-        Reading::Blank => {
+        Ok(None) => {
             *count = 0;
             0
         }
-        Reading::Refused(x) => x.number,
+        Err(x) => x.number,
     }
 }
 
