@@ -1,13 +1,12 @@
 // A parameter set's verdict and its addresses, one answer a line; a refusal is a line such as `refused 1`, or with the size that would have fitted
 // `refused 3 192`.
-ghost use Rattle.std.specs.Prelude.{◌≤◌};
-
-use super::{LONGEST, say, say_number, wide};
+use super::{LONGEST, say, say_number};
 use laws::Way;
 use lte::Given;
 use sets::{Refusal, Set, Verdict};
 use system::{STDOUT_FILENO, System};
 use walks::{Found, Walk, Walked};
+use words::text::Text;
 
 pub fn refused(system: System, fd: i32, x: Refusal) {
     words::text::say_refusal(system, fd, x.number, x.size);
@@ -15,17 +14,12 @@ pub fn refused(system: System, fd: i32, x: Refusal) {
 
 // The first n addresses of a slice, one a line.
 fn addresses(system: System, slots: &[u16], n: u32) {
-    let mut room = [0u8; 4096];
-    let mut at = 0;
-    let mut i = 0;
-    while i < slots.len() {
-        if i < n as usize {
-            at = words::text::put_number(system, &mut room, at, wide(slots[i]));
-            at = words::text::put(system, &mut room, at, b"\n");
-        }
-        i += 1;
+    let mut text = Text::new(system);
+    for slot in slots.iter().take(n as usize) {
+        text.put_number(u64::from(*slot));
+        text.put(b"\n");
     }
-    words::text::flush(system, &room, at);
+    text.flush();
 }
 
 // A walk's addresses, or its refusal.
@@ -78,12 +72,6 @@ pub fn one(system: System, way: Way, set: Set, x: u32) {
     found(system, walks::address_by(way, set, x));
 }
 
-fn least(a: usize, b: usize) -> usize
-    ensures { (result ≤ a) × (result ≤ b) }
-{
-    if a <= b { a } else { b }
-}
-
 // A walk into a slice: the addresses, then what it counted.
 fn walk_into(system: System, w: Walk, slots: &mut [u16]) {
     let r = walks::walk_l(w, slots);
@@ -103,6 +91,6 @@ fn walk_into(system: System, w: Walk, slots: &mut [u16]) {
 // `walk`. No list is longer than LONGEST, so a larger room is as good as one of that length.
 pub fn walk(system: System, set: Set, cell: u32, room: u32) {
     let mut table = [0u16; LONGEST];
-    let n = least(room as usize, LONGEST);
+    let n = LONGEST.min(room as usize);
     walk_into(system, Walk { set, cell }, &mut table[..n]);
 }
