@@ -1,7 +1,7 @@
 // What each profile admits, as a table. The sizes are those that the test of a set lets past 3, each size up to the longest list being tried, and the
 // streams those that it goes by, so the table cannot say anything else than the library does.
 use super::{say, say_number};
-use sets::{Set, Verdict};
+use sets::Set;
 use system::System;
 
 // Sizes that follow each other by one step.
@@ -15,16 +15,14 @@ struct Row {
 
 // The number of the refusal of a set, if it is refused.
 fn refusal(profile: u32, bits: u32, n: u32) -> Option<u32> {
-    match sets::test(Set {
+    let set = Set {
         profile,
         bits,
         n,
         stream: 1,
         factors: sets::NO_FACTORS,
-    }) {
-        Verdict::Refused(x) => Some(x.number),
-        Verdict::Accepted => None,
-    }
+    };
+    sets::test(set).err().map(|x| x.number)
 }
 
 // Whether N is listed: 1, 2 and 3 are not said. (With zeros for factors, 11 is said of a size of LTE, 10 of one of couples, and no other number.)

@@ -3,7 +3,7 @@
 use super::{LONGEST, say, say_number};
 use laws::Way;
 use lte::Given;
-use sets::{Refusal, Set, Verdict};
+use sets::{Refusal, Set};
 use system::{STDOUT_FILENO, System};
 use walks::{Found, Walk, Walked};
 use words::text::Text;
@@ -25,20 +25,16 @@ fn addresses(system: System, slots: &[u16], n: u32) {
 // A walk's addresses, or its refusal.
 fn walked(system: System, w: Walked, slots: &[u16]) {
     match w {
-        Walked::Refused(x) => refused(system, STDOUT_FILENO, x),
-        Walked::Done {
-            written,
-            next: _,
-            cells: _,
-        } => addresses(system, slots, written),
+        Ok(values) => addresses(system, slots, values.written),
+        Err(x) => refused(system, STDOUT_FILENO, x),
     }
 }
 
 // `test`: accepted, or the refusal.
 pub fn test(system: System, set: Set) {
     match sets::test(set) {
-        Verdict::Refused(x) => refused(system, STDOUT_FILENO, x),
-        Verdict::Accepted => say(system, b"accepted\n"),
+        Ok(()) => say(system, b"accepted\n"),
+        Err(x) => refused(system, STDOUT_FILENO, x),
     }
 }
 
@@ -62,8 +58,8 @@ pub fn list(system: System, way: Way, set: Set) {
 
 fn found(system: System, f: Found) {
     match f {
-        Found::Refused(x) => refused(system, STDOUT_FILENO, x),
-        Found::At(a) => words::text::say_line(system, STDOUT_FILENO, b"", a as u64),
+        Ok(a) => words::text::say_line(system, STDOUT_FILENO, b"", a as u64),
+        Err(x) => refused(system, STDOUT_FILENO, x),
     }
 }
 
@@ -76,15 +72,10 @@ pub fn one(system: System, way: Way, set: Set, x: u32) {
 fn walk_into(system: System, w: Walk, slots: &mut [u16]) {
     let r = walks::walk_l(w, slots);
     walked(system, r, slots);
-    if let Walked::Done {
-        written,
-        next,
-        cells,
-    } = r
-    {
-        say_number(system, b"written ", written as u64);
-        say_number(system, b" next ", next.cell as u64);
-        words::text::say_line(system, STDOUT_FILENO, b" cells ", cells as u64);
+    if let Ok(values) = r {
+        say_number(system, b"written ", values.written as u64);
+        say_number(system, b" next ", values.next.cell as u64);
+        words::text::say_line(system, STDOUT_FILENO, b" cells ", values.cells as u64);
     }
 }
 

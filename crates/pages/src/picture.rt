@@ -5,7 +5,7 @@ ghost use Rattle.std.specs.Prelude.{◌≤◌};
 use super::{LONGEST, lists, say, say_number};
 use sets::{Factors, Set};
 use system::{STDOUT_FILENO, System};
-use walks::{Walk, Walked};
+use walks::Walk;
 use words::text::Text;
 
 // A dot for each output t: M L(t) t h0, a stroke of no length with round ends.
@@ -123,17 +123,12 @@ fn head(system: System, set: Set, n: u64)
 // `picture`.
 pub fn picture(system: System, set: Set) {
     let mut table = [0u16; LONGEST];
-    let w = walks::walk_l(Walk { set, cell: 0 }, &mut table);
-    match w {
-        Walked::Refused(x) => lists::refused(system, STDOUT_FILENO, x),
-        Walked::Done {
-            written,
-            next: _,
-            cells: _,
-        } => {
-            head(system, set, u64::from(written).min(6144));
-            dots(system, &table, written);
+    match walks::walk_l(Walk { set, cell: 0 }, &mut table) {
+        Ok(values) => {
+            head(system, set, u64::from(values.written).min(6144));
+            dots(system, &table, values.written);
             say(system, b"\"/>\n</svg>\n");
         }
+        Err(x) => lists::refused(system, STDOUT_FILENO, x),
     }
 }
