@@ -3,7 +3,7 @@ use super::{looks, words};
 use kinds::Stream;
 use kinds::sizes::Sizes;
 use laws::Way;
-use streams::{Answer, Said};
+use streams::Answer;
 use system::System;
 
 // The record after a start and a feed of the input. (A refused start gives one of kind 0, which every feed refuses.)
@@ -27,8 +27,8 @@ fn tell_next(system: System, got: Answer, s: Stream) {
     let said = got.said;
     let next = got.stream;
     match said {
-        Said::Refused(k) => words::number(system, b": refused ", k as u64),
-        Said::Done => {
+        Err(k) => words::number(system, b": refused ", k as u64),
+        Ok(()) => {
             let before = s.places;
             let after = next.places;
             words::number(system, b": done, branch ", s.branch as u64);

@@ -25,8 +25,8 @@ fn length_of(k: usize, left: usize) -> usize
 
 fn refusal(said: Said) -> u32 {
     match said {
-        Said::Done => 0,
-        Said::Refused(k) => k,
+        Ok(()) => 0,
+        Err(k) => k,
     }
 }
 

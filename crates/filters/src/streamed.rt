@@ -3,7 +3,6 @@ use super::{read_some, refused, write_out};
 use kinds::Stream;
 use kinds::sizes::Sizes;
 use laws::Way;
-use streams::Said;
 use system::System;
 
 // How a turn ended: whether to go on, and the record.
@@ -30,11 +29,11 @@ fn send(
     let said = answer.said;
     let stream = answer.stream;
     match said {
-        Said::Done => Going {
+        Ok(()) => Going {
             on: write_out(system, out),
             stream,
         },
-        Said::Refused(number) => {
+        Err(number) => {
             refused(system, number, 0);
             stopped(stream)
         }
@@ -87,8 +86,8 @@ fn started(system: System, way: Way, kind: u32, fill: u8, store: &mut [u8]) {
     let answer = streams::start(kind, store, fill);
     let said = answer.said;
     match said {
-        Said::Done => turns(system, way, answer.stream, store, &mut room, &mut out),
-        Said::Refused(number) => refused(system, number, 0),
+        Ok(()) => turns(system, way, answer.stream, store, &mut room, &mut out),
+        Err(number) => refused(system, number, 0),
     }
 }
 

@@ -2,7 +2,6 @@
 // `refused 3 192`.
 use super::{LONGEST, say, say_number};
 use laws::Way;
-use lte::Given;
 use sets::{Refusal, Set};
 use system::{STDOUT_FILENO, System};
 use walks::{Found, Walk, Walked};
@@ -41,11 +40,11 @@ pub fn test(system: System, set: Set) {
 // `factors`: f1 and f2 of a size of LTE.
 pub fn factors(system: System, k: u32) {
     match lte::factors(k) {
-        Given::Refused(x) => refused(system, STDOUT_FILENO, x),
-        Given::Of(f) => {
+        Ok(f) => {
             say_number(system, b"", f.first as u64);
             words::text::say_line(system, STDOUT_FILENO, b" ", f.second as u64);
         }
+        Err(x) => refused(system, STDOUT_FILENO, x),
     }
 }
 

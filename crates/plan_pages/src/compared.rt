@@ -1,7 +1,6 @@
 // `differ`: a line for each difference of two files, in file order, and then how many there are.
 use super::{ROOM, read, refused};
 use plan_differ::Difference;
-use plan_form::Place;
 use plans::differing::Differed;
 use system::System;
 use words::text::Text;
@@ -36,11 +35,11 @@ fn behind(d: Difference) -> From {
     }
 }
 
-fn put_place(text: &mut Text, p: Place) {
+fn put_place(text: &mut Text, place: Option<u32>) {
     text.put(b" ");
-    match p {
-        Place::Absent => text.put(b"-"),
-        Place::Address(a) => text.put_number(a as u64),
+    match place {
+        Some(a) => text.put_number(a as u64),
+        None => text.put(b"-"),
     }
 }
 

@@ -6,7 +6,7 @@ ghost use Rattle.wcdma_report.specs.Report.{Between, figures, totals, sizes_in};
 ghost use Rattle.report_pages.specs.Text.{field_text, row_text, rows_text, total_text, report_text, refusal_text, answer_text};
 
 use super::taken::MOST;
-use wcdma_report::{Figures, Reported, Summed, Totals};
+use wcdma_report::{Figures, Totals};
 use words::text::Text;
 
 // A number, and what stands behind it.
@@ -33,8 +33,8 @@ fn row_of(text: &mut Text, k: u32)
     ensures { Puts text.old (row_text (figures k)) text.new }
 {
     match wcdma_report::figures_of(k) {
-        Reported::Of(f) => row(text, f),
-        Reported::Refused(_) => {}
+        Ok(f) => row(text, f),
+        Err(_) => {}
     }
 }
 
@@ -63,8 +63,8 @@ fn total_of(text: &mut Text, first: u32, last: u32)
     ensures { Puts text.old (total_text (totals first last)) text.new }
 {
     match wcdma_report::totals_of(first, last) {
-        Summed::Of(t) => total(text, t),
-        Summed::Refused(_) => {}
+        Ok(t) => total(text, t),
+        Err(_) => {}
     }
 }
 
