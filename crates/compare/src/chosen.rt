@@ -1,5 +1,4 @@
 // The sets that are compared.
-use lte::Given;
 use sets::{Factors, Set, Verdict};
 
 // The i-th of all profiles 1 to 4, bits 1 to 6, sizes 1 to 1,536: 36,864, most of them refused.
@@ -35,10 +34,7 @@ pub fn turbo_set(k: u32) -> Set {
 }
 
 fn standard(k: u32) -> Factors {
-    match lte::factors(k) {
-        Given::Of(f) => f,
-        Given::Refused(_) => sets::NO_FACTORS,
-    }
+    lte::factors(k).unwrap_or(sets::NO_FACTORS)
 }
 
 // A set of profile 8.
