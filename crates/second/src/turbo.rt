@@ -1,5 +1,5 @@
 // The grid of profile 5 from 3GPP TS 25.212: R, p, C, S, q and T, and a cell's address.
-use crate::num::{at, minus, over, plus, put, rest, times, wide};
+use crate::num::{at, minus, over, plus, put, rest, times};
 use crate::primes::{next_q, prime, root};
 
 // In the table S stands at 0, q at Q and T at T.
@@ -25,45 +25,26 @@ pub struct Grid {
 }
 
 pub(super) fn rows(k: usize) -> usize {
-    if k < 160 {
-        return 5;
+    match k {
+        0..160 => 5,
+        160..=200 | 481..=530 => 10,
+        _ => 20,
     }
-    if k <= 200 {
-        return 10;
-    }
-    if k < 481 {
-        return 20;
-    }
-    if k <= 530 {
-        return 10;
-    }
-    20
 }
 
 // p: the least prime from 7 on with K ≤ R·(p + 1); 53 for K 481 to 530.
 pub(super) fn prime_of(k: usize, r: usize) -> usize {
-    if r == 10 {
-        if 480 < k {
-            return 53;
-        }
+    if r == 10 && 480 < k {
+        return 53;
     }
-    let mut p = 7;
-    while p < 257 {
-        if k <= times(r, plus(p, 1)) {
-            if prime(p) {
-                return p;
-            }
-        }
-        p += 1;
-    }
-    p
+    (7..257)
+        .find(|p| k <= times(r, plus(*p, 1)) && prime(*p))
+        .unwrap_or(257)
 }
 
 pub(super) fn columns(k: usize, r: usize, p: usize) -> usize {
-    if r == 10 {
-        if 480 < k {
-            return 53;
-        }
+    if r == 10 && 480 < k {
+        return 53;
     }
     if k <= times(r, minus(p, 1)) {
         return minus(p, 1);
@@ -76,64 +57,40 @@ pub(super) fn columns(k: usize, r: usize, p: usize) -> usize {
 
 fn powers(p: usize, table: &mut [u16]) {
     let v = root(p);
-    let last = minus(p, 1);
     let mut y = 1;
-    let mut x = 0;
-    while x < last {
+    for x in 0..minus(p, 1) {
         put(table, x, y);
         y = rest(times(v, y), p);
-        x += 1;
     }
 }
 
 fn steps(r: usize, p: usize, table: &mut [u16]) {
     let mut q = 1;
-    let mut i = 0;
-    while i < r {
+    for i in 0..r {
         put(table, plus(Q, i), q);
         q = next_q(q, p);
-        i += 1;
     }
-}
-
-fn entry(order: &[u16; 20], i: usize) -> usize {
-    if i < 20 {
-        return wide(order[i]);
-    }
-    0
 }
 
 fn row(k: usize, r: usize, i: usize) -> usize {
     if r < 20 {
         return minus(minus(r, 1), i);
     }
-    if 2281 <= k {
-        if k <= 2480 {
-            return entry(&FIRST, i);
-        }
+    match k {
+        2281..=2480 | 3161..=3210 => at(&FIRST, i),
+        _ => at(&OTHER, i),
     }
-    if 3161 <= k {
-        if k <= 3210 {
-            return entry(&FIRST, i);
-        }
-    }
-    entry(&OTHER, i)
 }
 
 fn row_order(k: usize, r: usize, table: &mut [u16]) {
-    let mut i = 0;
-    while i < r {
+    for i in 0..r {
         put(table, plus(T, i), row(k, r, i));
-        i += 1;
     }
 }
 
 // If C = p + 1 and K = R.C, the standard exchanges U(p) with U(0) of row R - 1.
 fn exchanges(k: usize, r: usize, p: usize, c: usize) -> bool {
-    if c == plus(p, 1) {
-        return k == times(r, c);
-    }
-    false
+    c == plus(p, 1) && k == times(r, c)
 }
 
 // R, p and C, with S, q and T in the table.
@@ -170,17 +127,13 @@ fn across(g: Grid, table: &[u16], i: usize, j: usize) -> usize {
 
 // The column whose U stands at column j of a row, as the rows are before their order T.
 fn taken(g: Grid, row: usize, j: usize) -> usize {
-    if g.exchanges {
-        if plus(row, 1) == g.r {
-            if j == 0 {
-                return g.p;
-            }
-            if j == g.p {
-                return 0;
-            }
-        }
+    if !g.exchanges || plus(row, 1) != g.r {
+        return j;
     }
-    j
+    if j == 0 {
+        return g.p;
+    }
+    if j == g.p { 0 } else { j }
 }
 
 // T(i)·C + u of the column that a cell takes, the cells with j outer and i inner.
