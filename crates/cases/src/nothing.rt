@@ -29,11 +29,13 @@ fn tell_next(system: System, got: Answer, s: Stream) {
     match said {
         Said::Refused(k) => words::number(system, b": refused ", k as u64),
         Said::Done => {
-            let before = s.places;
-            let after = next.places;
             words::number(system, b": done, branch ", s.branch as u64);
             words::number(system, b" moved to ", next.branch as u64);
-            words::number(system, b", places moved ", looks::moved(&before, &after));
+            words::number(
+                system,
+                b", places moved ",
+                looks::differing(&s.places, &next.places),
+            );
         }
     }
 }

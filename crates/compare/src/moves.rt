@@ -1,6 +1,6 @@
 // Whole blocks of bytes, held against a list of the second computation over symbols, and single addresses, against one over what they count.
 use crate::count::Count;
-use crate::num::{differ, least, short, sum, weigh};
+use crate::num::{differ, short, sum, weigh, weight, wrong_numbers};
 use second::num::{at, over, times};
 use sets::Set;
 use tables::Moved;
@@ -15,65 +15,16 @@ fn sample(high: bool, t: usize) -> u8 {
 }
 
 fn samples(high: bool, src: &mut [u8]) {
-    let mut t = 0;
-    while t < src.len() {
-        src[t] = sample(high, t);
-        t += 1;
+    for (t, b) in src.iter_mut().enumerate() {
+        *b = sample(high, t);
     }
 }
 
-fn clear(dst: &mut [u8]) {
-    let mut t = 0;
-    while t < dst.len() {
-        dst[t] = 0;
-        t += 1;
-    }
-}
-
-fn octet(b: u8) -> usize {
-    b as usize
-}
-
-fn byte(s: &[u8], i: usize) -> usize {
-    if i < s.len() {
-        return octet(s[i]);
-    }
-    0
-}
-
-// How many outputs t are not the input that the list has at t.
-fn wrong_outputs(list: &[u16], src: &[u8], dst: &[u8]) -> u64 {
-    let mut wrong: u64 = 0;
-    let mut t = 0;
-    while t < dst.len() {
-        wrong = sum(wrong, differ(byte(dst, t), byte(src, at(list, t))));
-        t += 1;
-    }
-    wrong
-}
-
-fn wrong_bytes(src: &[u8], dst: &[u8]) -> u64 {
-    let mut wrong: u64 = 0;
-    let mut t = 0;
-    while t < dst.len() {
-        wrong = sum(wrong, differ(byte(dst, t), byte(src, t)));
-        t += 1;
-    }
-    wrong
-}
-
+// How many outputs are not the inputs that the list has for them, and how many bytes that came back are not what they were.
 fn wrong_block(list: &[u16], src: &[u8], dst: &[u8], again: &[u8]) -> u64 {
-    sum(wrong_outputs(list, src, dst), wrong_bytes(src, again))
-}
-
-fn weight(dst: &[u8]) -> u64 {
-    let mut all: u64 = 0;
-    let mut t = 0;
-    while t < dst.len() {
-        all = sum(all, weigh(t, byte(dst, t)));
-        t += 1;
-    }
-    all
+    let there = wrong_numbers(dst, |t| at(src, at(list, t)));
+    let back = wrong_numbers(again, |t| at(src, t));
+    sum(there, back)
 }
 
 fn refused(m: Moved) -> u64 {
@@ -81,10 +32,6 @@ fn refused(m: Moved) -> u64 {
         Moved::Done => 0,
         Moved::Refused(_) => 1,
     }
-}
-
-fn one_if(b: bool) -> u64 {
-    if b { 1 } else { 0 }
 }
 
 // A block there and back.
@@ -97,19 +44,19 @@ fn block(
     again: &mut [u8],
 ) -> Count {
     samples(high, src);
-    clear(dst);
-    clear(again);
+    dst.fill(0);
+    again.fill(0);
     let first = refused(blocks::bytes::interleave(set, src, dst));
     let second = refused(blocks::bytes::deinterleave(set, dst, again));
-    let wrong = wrong_block(list, src, dst, again);
+    let moved = wrong_block(list, src, dst, again);
     Count {
-        sets: one_if(!high),
+        sets: u64::from(!high),
         calls: 2,
         addresses: dst.len() as u64,
         cells: 0,
         padding: 0,
-        weight: weight(dst),
-        differences: sum(wrong, sum(first, second)),
+        weight: weight(0, dst),
+        differences: sum(moved, sum(first, second)),
     }
 }
 
@@ -123,7 +70,7 @@ pub fn block_of(
     again: &mut [u8],
 ) -> Count {
     let n = tables::symbols_of(set);
-    if least(src.len(), least(dst.len(), again.len())) < n {
+    if src.len().min(dst.len()).min(again.len()) < n {
         return Count::wrong(1);
     }
     block(
@@ -155,7 +102,7 @@ fn single(set: Set, list: &[u16], i: usize) -> Count {
     let there = found(walks::address_l(set, short(t)));
     let back = found(walks::address_m(set, short(a)));
     Count {
-        sets: one_if(i == 0),
+        sets: u64::from(i == 0),
         calls: 2,
         addresses: 2,
         cells: 0,
@@ -166,11 +113,9 @@ fn single(set: Set, list: &[u16], i: usize) -> Count {
 }
 
 pub fn singles(set: Set, list: &[u16]) -> Count {
-    let mut c = Count::none();
-    let mut i = 0;
-    while i < 20 {
+    let mut c = Count::default();
+    for i in 0..20 {
         c = c.with(single(set, list, i));
-        i += 1;
     }
     c
 }

@@ -1,6 +1,6 @@
 // A walk in slices, held against a whole list of the second computation.
 use crate::count::Count;
-use crate::num::{differ, least, sum, weigh};
+use crate::num::{differ, sum, weight, wrong_numbers};
 use laws::Way;
 use second::num::{at, minus, plus};
 use second::{ENDS, Whole};
@@ -13,28 +13,6 @@ pub struct Going {
     pub given: usize,
     pub over: bool,
     pub count: Count,
-}
-
-// How many of the first n addresses of the slice are not those of the list from a place on.
-fn wrong_addresses(list: &[u16], from: usize, slice: &[u16], n: usize) -> u64 {
-    let mut wrong: u64 = 0;
-    let mut i = 0;
-    while i < n {
-        wrong = sum(wrong, differ(at(slice, i), at(list, plus(from, i))));
-        i += 1;
-    }
-    wrong
-}
-
-// The weight of the first n addresses of the slice, which stand in the list from a place on.
-fn weight(from: usize, slice: &[u16], n: usize) -> u64 {
-    let mut all: u64 = 0;
-    let mut i = 0;
-    while i < n {
-        all = sum(all, weigh(plus(from, i), at(slice, i)));
-        i += 1;
-    }
-    all
 }
 
 // The cell that a call must stop at: right after the address that fills the slice, or the total.
@@ -60,10 +38,11 @@ fn judge(
     let given = now.given;
     let cell = next.cell as usize;
     let room = slice.len();
-    let wrong = sum(
+    let told = slice.get(..n).unwrap_or(slice);
+    let differences = sum(
         sum(
-            wrong_addresses(list, given, slice, n),
-            differ(n, least(room, minus(w.addresses, given))),
+            wrong_numbers(told, |i| at(list, plus(given, i))),
+            differ(n, room.min(minus(w.addresses, given))),
         ),
         sum(
             differ(cell, due_cell(w, list, given, room)),
@@ -76,8 +55,8 @@ fn judge(
         addresses: n as u64,
         cells: cells as u64,
         padding: minus(cells, n) as u64,
-        weight: weight(given, slice, n),
-        differences: wrong,
+        weight: weight(given, told),
+        differences,
     };
     let count = now.count.with(more);
     Going {
@@ -113,7 +92,7 @@ fn step(way: Way, w: Whole, now: Going, list: &[u16], slice: &mut [u16]) -> Goin
 fn begin(w: Whole) -> Going {
     let set = w.set;
     let walk = Walk { set, cell: 0 };
-    let count = Count::none();
+    let count = Count::default();
     Going {
         walk,
         given: 0,
@@ -126,7 +105,7 @@ fn begin(w: Whole) -> Going {
 fn end(w: Whole, now: Going) -> Count {
     let c = now.count;
     let set = w.set;
-    let wrong = sum(
+    let differences = sum(
         sum(
             differ(c.addresses as usize, w.addresses),
             differ(c.cells as usize, w.cells),
@@ -143,7 +122,7 @@ fn end(w: Whole, now: Going) -> Count {
         cells: 0,
         padding: 0,
         weight: 0,
-        differences: wrong,
+        differences,
     };
     c.with(more)
 }
@@ -151,13 +130,11 @@ fn end(w: Whole, now: Going) -> Count {
 // Slices of the length of the one that is lent, until the walk is over.
 fn run(way: Way, w: Whole, list: &[u16], slice: &mut [u16]) -> Count {
     let mut now = begin(w);
-    let mut turns: usize = 0;
-    while turns < 6144 {
+    for _ in 0..6144 {
         now = step(way, w, now, list, slice);
         if now.over {
             return end(w, now);
         }
-        turns += 1;
     }
     Count::wrong(1)
 }

@@ -132,23 +132,15 @@ fn keep(k: usize, a: usize, cell: usize, kept: usize, list: &mut [u16]) -> usize
     plus(kept, 1)
 }
 
-// The grid of a block, with the exchange or, for a list that is wrong on purpose, without it.
-fn grid_of(k: usize, exchange: bool, table: &mut [u16]) -> turbo::Grid {
-    let g = turbo::plan(k, table);
-    turbo::Grid {
-        exchanges: g.exchanges & exchange,
-        ..g
-    }
-}
-
-// L of a set of profile 5, cell by cell.
-fn turbo_cells(set: Set, exchange: bool, table: &mut [u16], list: &mut [u16]) -> Whole {
+// L of a set of profile 5, cell by cell, with the exchange or, for a list that is wrong on purpose, without it.
+fn turbo_list(set: Set, exchange: bool, list: &mut [u16]) -> Whole {
     let k = set.n as usize;
-    let grid = grid_of(k, exchange, table);
+    let mut grid = turbo::plan(k);
+    grid.exchanges &= exchange;
     let cells = times(grid.r, grid.c);
     let mut kept = 0;
     for cell in 0..cells {
-        kept = keep(k, turbo::address(grid, table, cell), cell, kept, list);
+        kept = keep(k, turbo::address(&grid, cell), cell, kept, list);
     }
     Whole {
         set,
@@ -171,11 +163,6 @@ pub fn sides_of(k: usize) -> Sides {
         rows,
         columns: turbo::columns(k, rows, turbo::prime_of(k, rows)),
     }
-}
-
-fn turbo_list(set: Set, exchange: bool, list: &mut [u16]) -> Whole {
-    let mut table = [0u16; 400];
-    turbo_cells(set, exchange, &mut table, list)
 }
 
 // The list of an accepted set of profile 5 with no exchange at full rectangles: wrong on purpose.

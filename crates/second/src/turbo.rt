@@ -2,11 +2,6 @@
 use crate::num::{at, minus, over, plus, put, rest, times};
 use crate::primes::{next_q, prime, root};
 
-// In the table S stands at 0, q at Q and T at T.
-const Q: usize = 300;
-
-const T: usize = 320;
-
 const FIRST: [u16; 20] = [
     19, 9, 14, 4, 0, 2, 5, 7, 12, 18, 16, 13, 17, 15, 3, 1, 6, 11, 8, 10,
 ];
@@ -15,13 +10,16 @@ const OTHER: [u16; 20] = [
     19, 9, 14, 4, 0, 2, 5, 7, 12, 18, 10, 8, 13, 17, 3, 1, 16, 6, 15, 11,
 ];
 
-// R, p and C, and whether U(p) and U(0) of row R - 1 change places.
+// R, p and C, whether U(p) and U(0) of row R - 1 change places, and S, q and T.
 #[derive(Clone, Copy)]
 pub struct Grid {
     pub r: usize,
-    pub p: usize,
+    p: usize,
     pub c: usize,
     pub exchanges: bool,
+    s: [u16; 256],
+    q: [u16; 20],
+    t: [u16; 20],
 }
 
 pub(super) fn rows(k: usize) -> usize {
@@ -55,21 +53,27 @@ pub(super) fn columns(k: usize, r: usize, p: usize) -> usize {
     plus(p, 1)
 }
 
-fn powers(p: usize, table: &mut [u16]) {
+// S.
+fn powers(p: usize) -> [u16; 256] {
     let v = root(p);
+    let mut s = [0; 256];
     let mut y = 1;
     for x in 0..minus(p, 1) {
-        put(table, x, y);
+        put(&mut s, x, y);
         y = rest(times(v, y), p);
     }
+    s
 }
 
-fn steps(r: usize, p: usize, table: &mut [u16]) {
+// q.
+fn steps(r: usize, p: usize) -> [u16; 20] {
+    let mut steps = [0; 20];
     let mut q = 1;
     for i in 0..r {
-        put(table, plus(Q, i), q);
+        put(&mut steps, i, q);
         q = next_q(q, p);
     }
+    steps
 }
 
 fn row(k: usize, r: usize, i: usize) -> usize {
@@ -82,10 +86,13 @@ fn row(k: usize, r: usize, i: usize) -> usize {
     }
 }
 
-fn row_order(k: usize, r: usize, table: &mut [u16]) {
+// T.
+fn row_order(k: usize, r: usize) -> [u16; 20] {
+    let mut order = [0; 20];
     for i in 0..r {
-        put(table, plus(T, i), row(k, r, i));
+        put(&mut order, i, row(k, r, i));
     }
+    order
 }
 
 // If C = p + 1 and K = R.C, the standard exchanges U(p) with U(0) of row R - 1.
@@ -93,27 +100,26 @@ fn exchanges(k: usize, r: usize, p: usize, c: usize) -> bool {
     c == plus(p, 1) && k == times(r, c)
 }
 
-// R, p and C, with S, q and T in the table.
-pub(super) fn plan(k: usize, table: &mut [u16]) -> Grid {
+pub(super) fn plan(k: usize) -> Grid {
     let r = rows(k);
     let p = prime_of(k, r);
     let c = columns(k, r, p);
-    powers(p, table);
-    steps(r, p, table);
-    row_order(k, r, table);
     Grid {
         r,
         p,
         c,
         exchanges: exchanges(k, r, p, c),
+        s: powers(p),
+        q: steps(r, p),
+        t: row_order(k, r),
     }
 }
 
 // u of row i and column j.
-fn across(g: Grid, table: &[u16], i: usize, j: usize) -> usize {
+fn across(g: &Grid, i: usize, j: usize) -> usize {
     let last = minus(g.p, 1);
     if j < last {
-        let power = at(table, rest(times(j, at(table, plus(Q, i))), last));
+        let power = at(&g.s, rest(times(j, at(&g.q, i)), last));
         if g.c == last {
             return minus(power, 1);
         }
@@ -126,7 +132,7 @@ fn across(g: Grid, table: &[u16], i: usize, j: usize) -> usize {
 }
 
 // The column whose U stands at column j of a row, as the rows are before their order T.
-fn taken(g: Grid, row: usize, j: usize) -> usize {
+fn taken(g: &Grid, row: usize, j: usize) -> usize {
     if !g.exchanges || plus(row, 1) != g.r {
         return j;
     }
@@ -137,9 +143,9 @@ fn taken(g: Grid, row: usize, j: usize) -> usize {
 }
 
 // T(i)·C + u of the column that a cell takes, the cells with j outer and i inner.
-pub(super) fn address(g: Grid, table: &[u16], cell: usize) -> usize {
+pub(super) fn address(g: &Grid, cell: usize) -> usize {
     let i = rest(cell, g.r);
     let j = over(cell, g.r);
-    let row = at(table, plus(T, i));
-    plus(times(row, g.c), across(g, table, i, taken(g, row, j)))
+    let row = at(&g.t, i);
+    plus(times(row, g.c), across(g, i, taken(g, row, j)))
 }
