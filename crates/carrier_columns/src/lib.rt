@@ -11,7 +11,7 @@ ghost use Rattle.carrier.specs.Block.{Block, Whole};
 ghost use Rattle.carrier_columns.specs.Column.{ColumnAt, ColumnIn, ColumnStep};
 ghost use Rattle.carrier_columns.specs.Down.{DownIn, Down};
 
-use laws::Leaf;
+use laws::{Leaf, Went};
 use residues::least;
 
 // The turned place one row on: one less, modulo s.
@@ -153,11 +153,11 @@ pub fn walk(d: usize, n: usize, s: usize, cell: usize, out: &mut [u16]) -> Leaf
     ensures { LeafOf n (back n (carrier_rule d n s)) cell out.old out.new result }
 {
     if n < cell {
-        return Leaf::Stopped(9);
+        return Err(9);
     }
     let count = write(d, n, s, cell, out);
-    Leaf::Went {
+    Ok(Went {
         written: count,
         cells: count,
-    }
+    })
 }

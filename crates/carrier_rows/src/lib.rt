@@ -11,7 +11,7 @@ ghost use Rattle.carrier.specs.Block.{Block, Whole};
 ghost use Rattle.carrier_rows.specs.Row.{RowAt, RowIn, RowStep};
 ghost use Rattle.carrier_rows.specs.Along.{AlongIn, Along};
 
-use laws::Leaf;
+use laws::{Leaf, Went};
 use residues::least;
 
 // The turn's part of the address at the next column: d more, or 0 after the last.
@@ -195,17 +195,17 @@ pub fn walk(d: usize, n: usize, s: usize, cell: usize, out: &mut [u16]) -> Leaf
     ensures { LeafOf n (carrier_rule d n s) cell out.old out.new result }
 {
     if n < cell {
-        return Leaf::Stopped(9);
+        return Err(9);
     }
     if out.len() == 0 {
-        return Leaf::Went {
+        return Ok(Went {
             written: 0,
             cells: 0,
-        };
+        });
     }
     let count = write(d, n, s, cell, out);
-    Leaf::Went {
+    Ok(Went {
         written: count,
         cells: count,
-    }
+    })
 }

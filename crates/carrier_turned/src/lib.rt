@@ -11,7 +11,7 @@ ghost use Rattle.laws.specs.Walk.{LeafOf, back};
 ghost use Rattle.carrier_turned.specs.Turned.{turned_l, turned_m, Within, rule_by, Spatial, TakenOff, off};
 
 use carrier::turn_of;
-use laws::Leaf;
+use laws::{Leaf, Went};
 use residues::least;
 
 // A block of a spatial stream: d, N and s of the two steps, and bits, r and the stream of the third.
@@ -85,14 +85,14 @@ pub fn walk_l(b: Stream, cell: usize, out: &mut [u16]) -> Leaf
     ensures { LeafOf b.n (rule_by b) cell out.old out.new result }
 {
     if b.n < cell {
-        return Leaf::Stopped(9);
+        return Err(9);
     }
     let v = turn_of(b.bits, b.r, b.stream);
     let count = write_l(b.d, b.n, b.s, v, cell, out);
-    Leaf::Went {
+    Ok(Went {
         written: count,
         cells: count,
-    }
+    })
 }
 
 // The walk for M from any cell, likewise.
@@ -101,14 +101,14 @@ pub fn walk_m(b: Stream, cell: usize, out: &mut [u16]) -> Leaf
     ensures { LeafOf b.n (back b.n (rule_by b)) cell out.old out.new result }
 {
     if b.n < cell {
-        return Leaf::Stopped(9);
+        return Err(9);
     }
     let v = turn_of(b.bits, b.r, b.stream);
     let count = write_m(b.d, b.n, b.s, v, cell, out);
-    Leaf::Went {
+    Ok(Went {
         written: count,
         cells: count,
-    }
+    })
 }
 
 // L(t), for t below N.

@@ -15,7 +15,7 @@ pub fn walk(way: Way, set: Set, cell: usize, out: &mut [u16]) -> Leaf
 {
     match way {
         Way::Interleaver => couples_walk::walk(sets::couples_of(set), cell, out),
-        Way::Deinterleaver => Leaf::Stopped(1),
+        Way::Deinterleaver => Err(1),
     }
 }
 

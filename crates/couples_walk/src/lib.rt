@@ -14,7 +14,7 @@ ghost use Rattle.couples.specs.Test.{Numbered};
 ghost use Rattle.couples_walk.specs.Spot.{Block, onward, SpotAt, SpotIn, spots, Walking};
 
 use couples::{Couples, offset_of};
-use laws::Leaf;
+use laws::{Leaf, Went};
 use residues::{least, plus};
 
 // The couple of output j, by division.
@@ -135,13 +135,13 @@ pub fn walk(couples: Couples, cell: usize, out: &mut [u16]) -> Leaf
     ensures { LeafOf couples.n (coupled_rule couples) cell out.old out.new result }
 {
     if cell > couples.n as usize {
-        return Leaf::Stopped(9);
+        return Err(9);
     }
     let count = write(couples, cell, out);
-    Leaf::Went {
+    Ok(Went {
         written: count,
         cells: count,
-    }
+    })
 }
 
 // P(j), for j below N.

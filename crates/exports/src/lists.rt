@@ -3,7 +3,8 @@ ghost use Rattle.std.specs.Prelude.{◌≡◌, ℕ};
 ghost use Rattle.laws.specs.declared.Way.TheVariants.{Interleaver, Deinterleaver};
 ghost use Rattle.sets.specs.Verdict.{verdict_of, fitting_of};
 ghost use Rattle.lte.specs.Factors.{given_of};
-ghost use Rattle.walks.specs.Answer.{slice_of, found_of, Values};
+ghost use Rattle.walks.specs.declared.Values.{Values};
+ghost use Rattle.walks.specs.Answer.{slice_of, found_of};
 ghost use Rattle.flat.specs.Flat.{set_of, walk_of, lent_walk, number_of, out_of, factors_list};
 
 use flat::{FACTORS, SET};

@@ -2,8 +2,7 @@
 use Rattle.std.specs.Prelude.{ℕ, ◌<◌, List, ◌≡◌}
 use Rattle.std.proofs.Common.{sym, ap, ap₂, ◌∙◌, subst, arith}
 use Rattle.laws.specs.declared.Way.{Way}
-use Rattle.laws.specs.declared.Leaf.{Leaf}
-use Rattle.laws.specs.Walk.{Rule, in_way, LeafOf}
+use Rattle.laws.specs.Walk.{Leaf, Rule, in_way, LeafOf}
 use Rattle.sets.specs.declared.Set.{Set}
 use Rattle.profiles.specs.declared.Family.{Family}
 use Rattle.profiles.specs.declared.Family.TheVariants.{Carrier, Spatial, Turbo, Quadratic, Coupled}

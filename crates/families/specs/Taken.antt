@@ -1,13 +1,11 @@
 -- An accepted set of a family, and what the leaf of its walk promises: 1 where the walk is not had, else what the leaf of its rule does.
 -- Rests on Rules.
-use Rattle.std.specs.Prelude.{ℕ, Bool, true, false, ◌||◌, List, ◌∷◌, ◌≡◌, refl, length}
+use Rattle.std.specs.Prelude.{ℕ, Bool, true, false, ◌||◌, List, ◌∷◌, ◌≡◌, refl, length, Ok, Err}
 use Rattle.std.proofs.Common.{true≢false, arith}
 use Rattle.std.proofs.lemmas.Bool.{false≢true}
 use Rattle.laws.specs.declared.Way.{Way}
-use Rattle.laws.specs.Outcome.{Line, line, judged, after}
-use Rattle.laws.specs.declared.Leaf.{Leaf}
-use Rattle.laws.specs.declared.Leaf.TheVariants.{Went, Stopped}
-use Rattle.laws.specs.Walk.{walk_counts, leaf_lines, say_leaf, LeafOf}
+use Rattle.laws.specs.Outcome.{say, Line, line, judged, after}
+use Rattle.laws.specs.Walk.{Leaf, walk_counts, leaf_lines, LeafOf}
 use Rattle.laws.specs.Walk as along
 use Rattle.laws.specs.Leaves.{Fits, leaf_fits}
 use Rattle.sets.specs.declared.Set.{Set}
@@ -72,7 +70,7 @@ abbrev pub way_lines : Way → Set → ℕ → List Line
 way_lines way s cell = line 1 (barred way (family_of s)) ∷ leaf_lines (rule_in way s) cell
 
 pub record WalkLeaf (way : Way) (s : Set) (cell : ℕ) (old new : List ℕ) (leaf : Leaf) : Type 0 where
-  pub answer : say_leaf leaf ≡ judged (λ k. k) (way_lines way s cell) (walk_counts s.n (rule_in way s) cell (length old))
+  pub answer : say leaf ≡ judged (λ k. k) (way_lines way s cell) (walk_counts s.n (rule_in way s) cell (length old))
   pub slice : new ≡ after (way_lines way s cell) (along.walk_slice s.n (rule_in way s) cell old) old
 
 module _ (way : Way) (s : Set) {cell : ℕ} {old new : List ℕ} {leaf : Leaf} (o : barred way (family_of s) ≡ false) where
@@ -82,14 +80,14 @@ module _ (way : Way) (s : Set) {cell : ℕ} {old new : List ℕ} {leaf : Leaf} (
   pub leaf_had : WalkLeaf way s cell old new leaf → LeafOf s.n (rule_in way s) cell old new leaf
   leaf_had l = record { answer = rw o at l.answer; slice = rw o at l.slice }
 
-pub barred_leaf : (way : Way) (s : Set) {cell : ℕ} {old : List ℕ} → barred way (family_of s) ≡ true → WalkLeaf way s cell old old (Stopped 1)
+pub barred_leaf : (way : Way) (s : Set) {cell : ℕ} {old : List ℕ} → barred way (family_of s) ≡ true → WalkLeaf way s cell old old (Err 1)
 barred_leaf way s b = record { answer = rw b; slice = rw b }
 
 -- its numbers fit
 pub walk_leaf_fits : (way : Way) (s : Set) {cell : ℕ} {old new : List ℕ} (leaf : Leaf) → Accepted s → WalkLeaf way s cell old new leaf → Fits cell leaf
-walk_leaf_fits way s (Stopped k) e l = tt
-walk_leaf_fits way s {cell} {old} (Went a c) e l = go (barred way (family_of s)) refl
+walk_leaf_fits way s (Err k) e l = tt
+walk_leaf_fits way s {cell} {old} (Ok w) e l = go (barred way (family_of s)) refl
   where
-    go : (b : Bool) → barred way (family_of s) ≡ b → Fits cell (Went a c)
-    go false o = leaf_fits (lawful_way way s e) (Went a c) (leaf_had way s o l)
+    go : (b : Bool) → barred way (family_of s) ≡ b → Fits cell (Ok w)
+    go false o = leaf_fits (lawful_way way s e) (Ok w) (leaf_had way s o l)
     go true o = let q = rw o at l.answer in let z : ◌≡◌ {A = ℕ} 0 1 = cc in absurd (omega arith)

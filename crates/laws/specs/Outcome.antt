@@ -1,6 +1,6 @@
 -- The pattern of every call. Its refusals are lines in the order of the checks, each a number and whether it applies: the first that
 -- applies is given, and where one applies no lent buffer changes. Over any values and any kind of refusal.
-use Rattle.std.specs.Prelude.{ℕ, Bool, true, false, cond, List, [], ◌∷◌, ◌++◌, ◌≡◌, refl}
+use Rattle.std.specs.Prelude.{ℕ, Bool, true, false, cond, List, [], ◌∷◌, ◌++◌, ◌≡◌, refl, Result, Ok, Err}
 use Rattle.std.proofs.Common.{arith, sym, ap, ap₂, ◌∙◌}
 
 -- what a call says: it is done, with its values, or it is refused
@@ -13,9 +13,25 @@ abbrev pub part_or : {R A B : Type 0} → Outcome R A → (A → B) → B → B
 part_or (done a) part z = part a
 part_or (refused r) part z = z
 
+-- what the answer of a call says
+abbrev pub say : {R A : Type 0} → Result A R → Outcome R A
+say (Ok a) = done a
+say (Err r) = refused r
+
 -- what can be read back from what an answer says tells any two answers apart: answers that say the same are the same
 pub apart : {X Y : Type 0} (say : X → Y) (read : Y → X) → ((a : X) → read (say a) ≡ a) → (a b : X) → say a ≡ say b → a ≡ b
 apart say read same a b e = sym (same a) ∙ ap read e ∙ same b
+
+pub answers_apart : {R A : Type 0} (a b : Result A R) → say a ≡ say b → a ≡ b
+answers_apart {R} {A} = apart say read same
+  where
+    read : Outcome R A → Result A R
+    read (done a) = Ok a
+    read (refused r) = Err r
+
+    same : (a : Result A R) → read (say a) ≡ a
+    same (Ok a) = refl
+    same (Err r) = refl
 
 -- a line of the order of checks: its number, and whether it applies
 pub record Line : Type 0 where

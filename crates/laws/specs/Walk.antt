@@ -1,7 +1,7 @@
 -- A family of interleavers is one rule, and a walk along it is one thing for every family: which addresses it writes, which cells it examines,
 -- what it leaves in the slice, and when it is refused. Every leaf walk promises `LeafOf`; what stands above the families rests on `Lawful` and on
 -- no formula.
-use Rattle.std.specs.Prelude.{ℕ, min, ◌+◌, ◌-◌, ◌≤◌, ◌<◌, ◌≡◌, ltb}
+use Rattle.std.specs.Prelude.{ℕ, min, ◌+◌, ◌-◌, ◌≤◌, ◌<◌, ◌≡◌, ltb, Result}
 use mathlib.Core.List.{List, [], ◌∷◌, ◌++◌}
 use Rattle.std.proofs.Math.Path.{sym, ap}
 use Rattle.std.proofs.Common.{◌∙◌, zero-add, lt-ltb}
@@ -11,9 +11,8 @@ use Rattle.std.proofs.Math.ListN.{length, take, drop}
 use Rattle.std.proofs.Math.Seq.{drop-append_seam}
 use Rattle.laws.specs.declared.Way.{Way}
 use Rattle.laws.specs.declared.Way.TheVariants.{Interleaver, Deinterleaver}
-use Rattle.laws.specs.declared.Leaf.{Leaf}
-use Rattle.laws.specs.declared.Leaf.TheVariants.{Went, Stopped}
-use Rattle.laws.specs.Outcome.{Outcome, done, refused, Line, line, judged, after}
+use Rattle.laws.specs.declared.Went.{Went}
+use Rattle.laws.specs.Outcome.{say, Line, line, judged, after}
 use Rattle.laws.specs.Run.{run, length_run, take_run, drop_run}
 use Rattle.laws.specs.Perm.{Perm, swapped}
 use Rattle.laws.specs.Keep.{keep, wrote, steps, padding}
@@ -65,28 +64,24 @@ module _ (n : ℕ) (r : Rule) (cell : ℕ) where
 unfoldable pub passed_by : ℕ → Rule → ℕ → ℕ
 passed_by n r cell = length (keep r.address (inside n) 0 cell)
 
--- what a leaf walk counts
-pub record Counts : Type 0 where
-  pub written : ℕ
-  pub cells : ℕ
+-- what a leaf walk answers: what it counts, or the number of its refusal
+abbrev pub Leaf : Type 0
+Leaf = Result Went ℕ
 
-abbrev pub counts : ℕ → ℕ → Counts
-counts w c = record { written = w; cells = c }
+-- what it counts
+abbrev pub went : ℕ → ℕ → Went
+went w c = record { written = w; cells = c }
 
-abbrev pub walk_counts : ℕ → Rule → ℕ → ℕ → Counts
-walk_counts n r cell room = counts (length (walk_list n r cell room)) (walk_cells n r cell room)
+abbrev pub walk_counts : ℕ → Rule → ℕ → ℕ → Went
+walk_counts n r cell room = went (length (walk_list n r cell room)) (walk_cells n r cell room)
 
 -- what it may be refused for: 9, that the cell is past the total
 abbrev pub leaf_lines : Rule → ℕ → List Line
 leaf_lines r cell = line 9 (ltb r.total cell) ∷ []
 
-abbrev pub say_leaf : Leaf → Outcome ℕ Counts
-say_leaf (Went w c) = done (counts w c)
-say_leaf (Stopped k) = refused k
-
 -- what every leaf walk promises, from any cell
 pub record LeafOf (n : ℕ) (r : Rule) (cell : ℕ) (old new : List ℕ) (leaf : Leaf) : Type 0 where
-  pub answer : say_leaf leaf ≡ judged (λ k. k) (leaf_lines r cell) (walk_counts n r cell (length old))
+  pub answer : say leaf ≡ judged (λ k. k) (leaf_lines r cell) (walk_counts n r cell (length old))
   pub slice : new ≡ after (leaf_lines r cell) (walk_slice n r cell old) old
 
 -- the laws of a family: L and M undo each other below N; the addresses that are no padding are L, at 0 to N - 1; cells fit 16 bits

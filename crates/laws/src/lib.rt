@@ -1,4 +1,4 @@
-// Mathematics: specs/ has the laws, over any element and any rule. The code is two types: which way symbols go, and what every leaf walk answers.
+// Mathematics: specs/ has the laws, over any element and any rule. The code is types: which way symbols go, and what every leaf walk answers.
 // (specs/Walk.antt says what it promises.)
 #![tactic(auto)]
 
@@ -9,9 +9,12 @@ pub enum Way {
     Deinterleaver,
 }
 
-// A walk of a family: addresses written and cells examined; or the number of its refusal.
+// What a walk of a family counts: addresses written and cells examined.
 #[derive(Clone, Copy)]
-pub enum Leaf {
-    Went { written: usize, cells: usize },
-    Stopped(u32),
+pub struct Went {
+    pub written: usize,
+    pub cells: usize,
 }
+
+// The answer of a walk of a family: what it counts, or the number of its refusal.
+pub type Leaf = Result<Went, u32>;

@@ -17,7 +17,7 @@ pub fn walk(way: Way, set: Set, cell: usize, out: &mut [u16]) -> Leaf
     let f2 = set.factors.second as usize;
     match way {
         Way::Interleaver => quadratic_walk::walk(set.n as usize, f1, f2, cell, out),
-        Way::Deinterleaver => Leaf::Stopped(1),
+        Way::Deinterleaver => Err(1),
     }
 }
 

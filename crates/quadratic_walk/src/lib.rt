@@ -9,7 +9,7 @@ ghost use Rattle.laws.specs.Walk.{LeafOf};
 ghost use Rattle.quadratic.specs.Formula.{quadratic_l, quadratic_m, quadratic_rule};
 ghost use Rattle.quadratic_walk.specs.Spot.{Whole, Block, SpotAt, SpotIn, Walking, OneOn};
 
-use laws::Leaf;
+use laws::{Leaf, Went};
 use residues::{least, plus};
 
 // Where a walk stands: the address, and how much more the next one is, modulo K.
@@ -114,13 +114,13 @@ pub fn walk(k: usize, f1: usize, f2: usize, cell: usize, out: &mut [u16]) -> Lea
     ensures { LeafOf k (quadratic_rule k f1 f2) cell out.old out.new result }
 {
     if cell > k {
-        return Leaf::Stopped(9);
+        return Err(9);
     }
     let count = write(k, f1, f2, cell, out);
-    Leaf::Went {
+    Ok(Went {
         written: count,
         cells: count,
-    }
+    })
 }
 
 // L(t), for t below K.

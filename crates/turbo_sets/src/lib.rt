@@ -15,7 +15,7 @@ pub fn walk(way: Way, set: Set, cell: usize, out: &mut [u16]) -> Leaf
 {
     match way {
         Way::Interleaver => wcdma_walk::walk(set.n as usize, cell, out),
-        Way::Deinterleaver => Leaf::Stopped(1),
+        Way::Deinterleaver => Err(1),
     }
 }
 

@@ -1,10 +1,8 @@
 -- What the functions of the walk over the cells are given and ensure, part by part. Rests on Laid of crate wcdma, Post of wcdma_powers and Written of laws. These are definitions.
-use Rattle.std.specs.Prelude.{ℕ, ◌+◌, ◌*◌, ◌-◌, ◌<◌, ◌≤◌, cond, List, ◌≡◌, ltb, eqb, get_or, length}
+use Rattle.std.specs.Prelude.{ℕ, ◌+◌, ◌*◌, ◌-◌, ◌<◌, ◌≤◌, cond, List, ◌≡◌, ltb, eqb, get_or, length, Ok}
 use Rattle.laws.specs.Once.{inside}
 use Rattle.laws.specs.Written.{Written}
-use Rattle.laws.specs.declared.Leaf.{Leaf}
-use Rattle.laws.specs.declared.Leaf.TheVariants.{Went}
-use Rattle.laws.specs.Walk.{Rule, walk_list, walk_cells, walk_slice}
+use Rattle.laws.specs.Walk.{Rule, Leaf, walk_counts, walk_slice}
 use Rattle.wcdma_shape.specs.declared.Shape.{Shape}
 use Rattle.wcdma_shape.specs.Rectangle.{rows, prime, cols, cells}
 use Rattle.wcdma_shape.specs.Powers.{power, root}
@@ -62,5 +60,5 @@ pub record FillIn (z : Shape) (cell i j : ℕ) (s base fall e : List ℕ) : Type
 
 -- a walk along a rule is done: its answer and the slice
 pub record WentOf (k : ℕ) (rule : Rule) (cell : ℕ) (old new : List ℕ) (r : Leaf) : Type 0 where
-  pub answer : r ≡ Went (length (walk_list k rule cell (length old))) (walk_cells k rule cell (length old))
+  pub answer : r ≡ Ok (walk_counts k rule cell (length old))
   pub slice : new ≡ walk_slice k rule cell old

@@ -5,7 +5,7 @@ ghost use Rattle.std.specs.Prelude.{◌≡◌, ◌+◌, ◌-◌, ◌%◌, ◌<�
 ghost use Rattle.wcdma.specs.Laid.{plain_rule};
 ghost use Rattle.wcdma_cells.specs.Post.{entry_at, CellIn, CellOf, ColumnIn, ColumnOf, FillIn, WentOf};
 
-use laws::Leaf;
+use laws::{Leaf, Went};
 use wcdma_shape::{Shape, wide16};
 
 // U(j), where s is what the table has for it.
@@ -121,8 +121,8 @@ pub fn fill(
     }
     let here = j * r + i;
     let seen = here - cell;
-    Leaf::Went {
+    Ok(Went {
         written: n,
         cells: seen,
-    }
+    })
 }

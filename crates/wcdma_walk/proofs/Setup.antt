@@ -2,15 +2,14 @@
 use Prim.Native.Nat.{ℕ, ◌+◌, ◌-◌, ◌/◌, ◌%◌, ◌≤◌, ◌<◌}
 use mathlib.Core.Bool.{Bool, true, false, cond}
 use mathlib.Core.List.{List, ◌++◌}
+use Rattle.std.specs.Prelude.{Ok}
 use mathlib.Core.Path.{◌≡◌, refl, ap, ap₂, sym, ◌∙◌, subst}
 use native.Mathlib.Nat.{div-le_of_le-mul, mod-lt, div-add-mod'}
 use native.Mathlib.Omega.{arith}
 use lib.Dec.{eqb}
 use lib.ListN.{get_or, length, take, drop}
 use lib.Seq.{take_at}
-use Rattle.laws.specs.declared.Leaf.{Leaf}
-use Rattle.laws.specs.declared.Leaf.TheVariants.{Went}
-use Rattle.laws.specs.Walk.{walk_slice, LeafOf}
+use Rattle.laws.specs.Walk.{Leaf, went, walk_slice, LeafOf}
 use Rattle.laws.specs.Leaves.{leaf_went, from_first}
 use Rattle.wcdma_shape.specs.declared.Shape.{Shape}
 use Rattle.wcdma_shape.specs.Rectangle.{Size, rows, prime, cols, cells}
@@ -72,7 +71,7 @@ pub exchange_went : (k cell : ℕ) (old : List ℕ) {filled new : List ℕ} {r :
     → new ≡ exchange_in k cell filled → WentOf k (turbo_rule k) cell old new r
 exchange_went k cell old h w e =
     let a = alike k cell h old in
-    record { answer = w.answer ∙ ap₂ Went a.written a.passed; slice = e ∙ ap (exchange_in k cell) w.slice ∙ a.slice }
+    record { answer = w.answer ∙ ap Ok (ap₂ went a.written a.passed); slice = e ∙ ap (exchange_in k cell) w.slice ∙ a.slice }
 
 -- the answer of a walk that went
 pub went_says : (k cell : ℕ) (old : List ℕ) {y : ℕ} {new : List ℕ} {r : Leaf} → y ≡ k → cell ≤ cells k → WentOf y (turbo_rule y) cell old new r

@@ -45,7 +45,7 @@ pub fn walk(k: usize, cell: usize, out: &mut [u16]) -> Leaf
     let shape = wcdma_shape::shape_of(k);
     let total = shape.r * shape.c;
     if total < cell {
-        return Leaf::Stopped(9);
+        return Err(9);
     }
     walk_by(shape, cell, out)
 }
@@ -56,7 +56,7 @@ pub fn address_of(k: usize, t: usize) -> usize
     ensures { result ≡ turbo_l k t }
 {
     let mut table = [0u16; 5114];
-    walk(k, 0, &mut table[..t + 1]);
+    let _ = walk(k, 0, &mut table[..t + 1]);
     wcdma_shape::wide16(table[t])
 }
 
@@ -80,6 +80,6 @@ pub fn place_of(k: usize, a: usize) -> usize
     ensures { result ≡ turbo_m k a }
 {
     let mut table = [0u16; 5114];
-    walk(k, 0, &mut table);
+    let _ = walk(k, 0, &mut table);
     find(&table[..k], a)
 }

@@ -4,13 +4,13 @@ use borrow.Author.Tests.{eqb-true, leb-true}
 use lib.Dec.{eqb}
 use lib.ListN.{length}
 use mathlib.Core.Logic.{inl, inr}
+use Rattle.std.specs.Prelude.{Ok}
 use mathlib.Core.Path.{◌∙◌, ◌≡◌, ap, ap₂, refl, sym}
 use native.Mathlib.Nat.{add-mul, one-mul}
 use native.Mathlib.Omega.{arith}
 use Rattle.laws.specs.Members.{both}
 use Rattle.laws.specs.Written.{begun, ended}
-use Rattle.laws.specs.declared.Leaf.TheVariants.{Went}
-use Rattle.laws.specs.Walk.{walk_cells, walk_list, walk_slice}
+use Rattle.laws.specs.Walk.{went, walk_cells, walk_list, walk_slice}
 use Rattle.wcdma_shape.specs.Rectangle.{cols, rows}
 use Rattle.wcdma_shape.specs.Shape.{cells_le, cols_high, prime_small, rows_le, rows_pos}
 use Rattle.wcdma_cells.proofs.Cell.{cell_on, column_on, place_on}
@@ -132,4 +132,4 @@ returns c =
       | else-loop-j-test w ↦ inl (place_behind k here (omega (arith, c.requires.shape.cols_is, w.loop-j-test.false)))
       | then-loop-j-test+else-i-r+then-room-eq0 w ↦ inr (omega (arith, w.if-room-eq0.true, l.invariant.2.size))
     ]) in
-    record { answer = ap₂ Went d.number (omega (arith, stands, d.cell)); slice = d.whole ∙ rw d.number }
+    record { answer = ap Ok (ap₂ went d.number (omega (arith, stands, d.cell))); slice = d.whole ∙ rw d.number }
