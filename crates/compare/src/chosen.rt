@@ -1,6 +1,6 @@
 // The sets that are compared.
 use lte::Given;
-use sets::{Factors, Set, Verdict};
+use sets::{Factors, Set};
 
 // The sets of a comparison.
 #[derive(Clone, Copy)]
@@ -170,11 +170,11 @@ pub fn sets_in(choice: Choice) -> u32 {
 // The number that the test of a set gives, or 0.
 pub fn verdict(set: Set) -> u32 {
     match sets::test(set) {
-        Verdict::Accepted => 0,
-        Verdict::Refused(x) => x.number,
+        Ok(()) => 0,
+        Err(x) => x.number,
     }
 }
 
 pub fn accepted(set: Set) -> bool {
-    verdict(set) == 0
+    sets::test(set).is_ok()
 }

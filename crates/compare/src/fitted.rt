@@ -3,7 +3,7 @@
 use crate::chosen::carrier_set;
 use crate::count::number;
 use crate::num::sum;
-use sets::{Refusal, Verdict};
+use sets::Refusal;
 use system::System;
 
 // The size that was listed last; how many were refused with 3, how many of these carried 0, what they carried in all, and at how many refusals it was
@@ -50,8 +50,8 @@ fn refused(x: Refusal, n: u32, r: Run) -> Run {
 // One size.
 fn one(profile: u32, bits: u32, n: u32, r: Run) -> Run {
     match sets::test(carrier_set(profile, bits, n)) {
-        Verdict::Accepted => r.at(n),
-        Verdict::Refused(x) => refused(x, n, r),
+        Ok(()) => r.at(n),
+        Err(x) => refused(x, n, r),
     }
 }
 

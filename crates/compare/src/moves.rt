@@ -3,7 +3,6 @@ use crate::count::Count;
 use crate::num::{differ, short, sum, weigh, weight, wrong_numbers};
 use second::num::{at, over, times};
 use sets::Set;
-use tables::Moved;
 use walks::Found;
 
 // Byte t of the input: never 0. The low and the high byte together tell t.
@@ -27,13 +26,6 @@ fn wrong_block(list: &[u16], src: &[u8], dst: &[u8], again: &[u8]) -> u64 {
     sum(there, back)
 }
 
-fn refused(m: Moved) -> u64 {
-    match m {
-        Moved::Done => 0,
-        Moved::Refused(_) => 1,
-    }
-}
-
 // A block there and back.
 fn block(
     set: Set,
@@ -46,9 +38,9 @@ fn block(
     samples(high, src);
     dst.fill(0);
     again.fill(0);
-    let first = refused(blocks::bytes::interleave(set, src, dst));
-    let second = refused(blocks::bytes::deinterleave(set, dst, again));
-    let moved = wrong_block(list, src, dst, again);
+    let first = blocks::bytes::interleave(set, src, dst);
+    let second = blocks::bytes::deinterleave(set, dst, again);
+    let refused = u64::from(first.is_err()) + u64::from(second.is_err());
     Count {
         sets: u64::from(!high),
         calls: 2,
@@ -56,7 +48,7 @@ fn block(
         cells: 0,
         padding: 0,
         weight: weight(0, dst),
-        differences: sum(moved, sum(first, second)),
+        differences: sum(wrong_block(list, src, dst, again), refused),
     }
 }
 
@@ -85,10 +77,7 @@ pub fn block_of(
 
 // The address that was found; a refusal is none that is looked for.
 fn found(f: Found) -> usize {
-    match f {
-        Found::At(x) => x as usize,
-        Found::Refused(_) => 65535,
-    }
+    f.map_or(65535, |x| x as usize)
 }
 
 // The i-th of twenty positions, from 0 to N - 1, with its address, and that address back.

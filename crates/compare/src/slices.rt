@@ -4,7 +4,7 @@ use crate::num::{differ, sum, weight, wrong_numbers};
 use laws::Way;
 use second::num::{at, minus, plus};
 use second::{ENDS, Whole};
-use walks::{Walk, Walked};
+use walks::{Values, Walk};
 
 // A walk part way: its record, how many addresses it has given, whether it is over, and what was counted.
 #[derive(Clone, Copy)]
@@ -25,19 +25,12 @@ fn due_cell(w: Whole, list: &[u16], given: usize, room: usize) -> usize {
 }
 
 // What one call answered: its addresses, how many, the cell it stopped at, the cells examined.
-fn judge(
-    w: Whole,
-    now: Going,
-    next: Walk,
-    n: usize,
-    cells: usize,
-    list: &[u16],
-    slice: &[u16],
-) -> Going {
-    let walk = now.walk;
+fn judge(w: Whole, now: Going, values: Values, list: &[u16], slice: &[u16]) -> Going {
     let given = now.given;
-    let cell = next.cell as usize;
     let room = slice.len();
+    let n = values.written as usize;
+    let cells = values.cells as usize;
+    let cell = values.next.cell as usize;
     let told = slice.get(..n).unwrap_or(slice);
     let differences = sum(
         sum(
@@ -46,7 +39,7 @@ fn judge(
         ),
         sum(
             differ(cell, due_cell(w, list, given, room)),
-            differ(plus(walk.cell as usize, cells), cell),
+            differ(plus(now.walk.cell as usize, cells), cell),
         ),
     );
     let more = Count {
@@ -58,46 +51,35 @@ fn judge(
         weight: weight(given, told),
         differences,
     };
-    let count = now.count.with(more);
     Going {
-        walk: next,
+        walk: values.next,
         given: plus(given, n),
         over: w.cells <= cell,
-        count,
+        count: now.count.with(more),
     }
 }
 
 // The next slice; a refusal is a difference, and the end.
 fn step(way: Way, w: Whole, now: Going, list: &[u16], slice: &mut [u16]) -> Going {
-    let walk = now.walk;
-    let answer = walks::walk_by(way, walk, slice);
-    match answer {
-        Walked::Refused(_) => {
-            let count = now.count.with(Count::wrong(1));
-            Going {
-                walk,
-                given: now.given,
-                over: true,
-                count,
-            }
-        }
-        Walked::Done {
-            written,
-            next,
-            cells,
-        } => judge(w, now, next, written as usize, cells as usize, list, slice),
+    match walks::walk_by(way, now.walk, slice) {
+        Ok(values) => judge(w, now, values, list, slice),
+        Err(_) => Going {
+            over: true,
+            count: now.count.with(Count::wrong(1)),
+            ..now
+        },
     }
 }
 
 fn begin(w: Whole) -> Going {
-    let set = w.set;
-    let walk = Walk { set, cell: 0 };
-    let count = Count::default();
     Going {
-        walk,
+        walk: Walk {
+            set: w.set,
+            cell: 0,
+        },
         given: 0,
         over: false,
-        count,
+        count: Count::default(),
     }
 }
 

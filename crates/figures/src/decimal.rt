@@ -1,6 +1,6 @@
 // An f32 in decimal, exactly: it is a whole number of 24 bits, doubled some times, or halved, which is to multiply it by 5 and to set the point one
 // place further left. That is done digit by digit. The text stands at the end of a room that is full of zeros before.
-ghost use Rattle.std.specs.Prelude.{◌≤◌, ◌<◌};
+ghost use Rattle.std.specs.Prelude.{◌≡◌, drop, ◌≤◌, ◌<◌};
 
 // The room of a text: the longest has a sign, a zero, the point and 149 decimals.
 const PLACES: usize = 160;
@@ -168,7 +168,9 @@ impl Decimal {
         Decimal { room, start }
     }
 
-    pub fn text(&self) -> &[u8] {
+    pub fn text(&self) -> &[u8]
+        ensures { result.now ≡ drop self.now.start self.now.room }
+    {
         self.room.get(self.start..).unwrap_or(&[])
     }
 }

@@ -5,7 +5,7 @@ pub mod decimal; // decimal.rt: an f32 in decimal, exactly
 mod bytes; // bytes.rt: the bytes of a file
 mod values; // values.rt: the values of a reception, and which are there
 
-ghost use Rattle.std.specs.Prelude.{◌≡◌, min, ◌≤◌};
+ghost use Rattle.std.specs.Prelude.{◌≡◌, min, take, ◌≤◌};
 
 use sets::Set;
 use system::System;
@@ -54,12 +54,16 @@ impl Reception {
         Some(Reception::of(&bytes, k, n))
     }
 
-    pub fn values(&self) -> &[f32] {
+    pub fn values(&self) -> &[f32]
+        ensures { result.now ≡ take self.now.count self.now.values }
+    {
         self.values.get(..self.count).unwrap_or(&self.values)
     }
 
     // 1 for each value that is there, and 0 for each blank.
-    pub fn present(&self) -> &[u8] {
+    pub fn present(&self) -> &[u8]
+        ensures { result.now ≡ take self.now.count self.now.present }
+    {
         self.present.get(..self.count).unwrap_or(&self.present)
     }
 }

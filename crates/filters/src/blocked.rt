@@ -1,9 +1,8 @@
 // Blocks of symbols from standard input to standard output, each moved whole.
 use super::{read_some, refused, write_out};
 use laws::Way;
-use sets::{Set, Verdict};
+use sets::Set;
 use system::System;
-use tables::Moved;
 
 // Reads until the block is full or the input ends, and answers how many bytes came. (By `while`: each read says how far it came.)
 fn read_block(system: System, block: &mut [u8]) -> usize {
@@ -30,8 +29,8 @@ impl Filter {
     // Moves a block and writes it. Answers whether to go on.
     fn send(self, system: System, src: &[u8], dst: &mut [u8]) -> bool {
         match symbols::move_symbols(self.way, self.set, self.width, src, dst) {
-            Moved::Done => write_out(system, dst),
-            Moved::Refused(x) => {
+            Ok(()) => write_out(system, dst),
+            Err(x) => {
                 refused(system, x.number, x.size);
                 false
             }
@@ -68,8 +67,8 @@ impl Filter {
 // `interleave` and `deinterleave`, of symbols of 1 to 8 bytes.
 pub fn through(system: System, way: Way, set: Set, width: u32) {
     match sets::test(set) {
-        Verdict::Refused(x) => refused(system, x.number, x.size),
-        Verdict::Accepted => {
+        Err(x) => refused(system, x.number, x.size),
+        Ok(()) => {
             let mut src = io::large_buffer();
             let mut dst = io::large_buffer();
             Filter { way, set, width }.in_parts(system, &mut src, &mut dst);

@@ -6,7 +6,7 @@ use figures::Reception;
 use figures::decimal::Decimal;
 use sets::{Refusal, Set};
 use system::{STDOUT_FILENO, System};
-use tables::{LARGE, Moved};
+use tables::LARGE;
 use words::arguments::LONGEST;
 use words::text::Text;
 
@@ -78,8 +78,8 @@ impl Block {
             &mut self.sums[..n],
             &mut self.counts[..n],
         ) {
-            Moved::Done => true,
-            Moved::Refused(x) => {
+            Ok(()) => true,
+            Err(x) => {
                 refused(system, x);
                 false
             }
