@@ -15,7 +15,7 @@ use laws::Way;
 pub extern "C" fn interleaver_test(set: &[u32; SET]) -> u32
     ensures { result ≡ number_of (verdict_of (set_of set.now)) }
 {
-    flat::tested(sets::test(flat::set_of(set)))
+    flat::number(sets::test(flat::set_of(set)))
 }
 
 // The size that refusal 3 of the set carries: the least listed N not below its own, or 0 if there is none. 0 where the set isn't refused with 3.

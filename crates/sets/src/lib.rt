@@ -35,7 +35,8 @@ pub struct Set {
 }
 
 // What a refused call gives back: the number of document 01; and with 3 the least listed N not below the one asked for, or 0 if there is none. With
-// every other number the size is 0.
+// every other number the size is 0. (A number, and no enum of reasons: `refusal` and the lines of every call, which the theorems stand on, name a refusal by
+// its number, as document 01, C and the program do.)
 #[derive(Clone, Copy)]
 pub struct Refusal {
     pub number: u32,
