@@ -1,5 +1,4 @@
 // The sets that are compared.
-use lte::Given;
 use sets::{Factors, Set};
 
 // The sets of a comparison.
@@ -49,10 +48,7 @@ fn spatial_at(i: u32) -> Set {
 }
 
 fn standard(k: u32) -> Factors {
-    match lte::factors(k) {
-        Given::Of(f) => f,
-        Given::Refused(_) => sets::NO_FACTORS,
-    }
+    lte::factors(k).unwrap_or(sets::NO_FACTORS)
 }
 
 // A set of profile 8.

@@ -8,7 +8,7 @@ use laws::Way;
 use second::num::plus;
 use second::{Sides, Whole};
 use system::System;
-use wcdma_report::{Figures, Reported, Summed, Totals};
+use wcdma_report::{Figures, Totals};
 
 // The figures of one K; each weighs itself times K + 1. Addresses, cells and padding are counted from the list.
 fn figures(f: Figures, s: Sides, w: Whole) -> Count {
@@ -36,8 +36,8 @@ fn one(k: u32, off: u32) -> Count {
     let mut list = [0u16; 12288];
     let w = second::list_of(Way::Interleaver, turbo_set(n), &mut list);
     match wcdma_report::figures_of(k) {
-        Reported::Of(f) => figures(f, second::sides_of(n as usize), w),
-        Reported::Refused(_) => Count::wrong(1),
+        Ok(f) => figures(f, second::sides_of(n as usize), w),
+        Err(_) => Count::wrong(1),
     }
 }
 
@@ -71,8 +71,8 @@ fn totals(t: Totals, c: Count) -> Count {
 
 fn range(first: u32, last: u32, c: Count) -> Count {
     match wcdma_report::totals_of(first, last) {
-        Summed::Of(t) => totals(t, c),
-        Summed::Refused(_) => Count::wrong(1),
+        Ok(t) => totals(t, c),
+        Err(_) => Count::wrong(1),
     }
 }
 

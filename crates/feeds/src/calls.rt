@@ -5,7 +5,7 @@ use super::standards;
 use super::tally::Tally;
 use kinds::Stream;
 use laws::Way;
-use streams::{Answer, Said};
+use streams::Answer;
 
 // The length of call k, from 0 up, each fourth a long one; never more than is left.
 fn length_of(k: usize, left: usize) -> usize
@@ -15,13 +15,6 @@ fn length_of(k: usize, left: usize) -> usize
         return left.min(k % 300 * 4);
     }
     left.min(k % 29)
-}
-
-fn refusal(said: Said) -> u32 {
-    match said {
-        Said::Done => 0,
-        Said::Refused(k) => k,
-    }
 }
 
 // The way of the k-th call that is to be refused.
@@ -96,13 +89,10 @@ fn step(way: Way, k: usize, now: Going, store: &mut [u8], input: &[u8], out: &mu
     let n = length_of(k, all - at);
     let e = at + n;
     let got = streams::feed(way, s, store, &input[at..e], &mut out[at..e]);
-    let said = got.said;
-    let next = got.stream;
-    let tally = now.tally.add(refusal(said), n as u64);
     Going {
-        s: next,
+        s: got.stream,
         at: e,
-        tally,
+        tally: now.tally.add(got.said, n as u64),
     }
 }
 
@@ -111,10 +101,8 @@ fn turn(way: Way, k: usize, now: Going, store: &mut [u8], input: &[u8], out: &mu
     let s = now.s;
     let at = now.at;
     let got = refused(k, s, store, input, out);
-    let said = got.said;
-    let handed = got.stream;
-    let tally = now.tally.add(refusal(said), 0);
-    let own = kept(k, handed, s);
+    let own = kept(k, got.stream, s);
+    let tally = now.tally.add(got.said, 0);
     step(way, k, Going { s: own, at, tally }, store, input, out)
 }
 

@@ -1,5 +1,6 @@
 // How often a machine was called, refused with 7, 9, 6 or anything else, and how many bytes it took.
 use super::plus;
+use streams::Said;
 
 #[derive(Clone, Copy, Default)]
 pub struct Tally {
@@ -12,16 +13,16 @@ pub struct Tally {
 }
 
 impl Tally {
-    // A call more: its refusal, or 0 and the bytes it took.
-    pub fn add(self, refusal: u32, bytes: u64) -> Self {
+    // A call more, of so many bytes, which it took where it was done.
+    pub fn add(self, said: Said, bytes: u64) -> Self {
         let mut more = self;
         more.calls = plus(more.calls, 1);
-        match refusal {
-            0 => more.bytes = plus(more.bytes, bytes),
-            6 => more.six = plus(more.six, 1),
-            7 => more.seven = plus(more.seven, 1),
-            9 => more.nine = plus(more.nine, 1),
-            _ => more.other = plus(more.other, 1),
+        match said {
+            Ok(()) => more.bytes = plus(more.bytes, bytes),
+            Err(6) => more.six = plus(more.six, 1),
+            Err(7) => more.seven = plus(more.seven, 1),
+            Err(9) => more.nine = plus(more.nine, 1),
+            Err(_) => more.other = plus(more.other, 1),
         }
         more
     }

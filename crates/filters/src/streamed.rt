@@ -3,7 +3,6 @@ use super::{read_some, refused, write_out};
 use kinds::Stream;
 use kinds::sizes::Sizes;
 use laws::Way;
-use streams::Said;
 use system::System;
 
 // Passes what came through the machine, and writes it. Answers the record, where it goes on.
@@ -17,8 +16,8 @@ fn send(
 ) -> Option<Stream> {
     let answer = streams::feed(way, s, store, input, out);
     match answer.said {
-        Said::Done => write_out(system, out).then_some(answer.stream),
-        Said::Refused(number) => {
+        Ok(()) => write_out(system, out).then_some(answer.stream),
+        Err(number) => {
             refused(system, number, 0);
             None
         }
@@ -65,8 +64,8 @@ fn started(system: System, way: Way, kind: u32, fill: u8, store: &mut [u8]) {
     let mut out = io::large_buffer();
     let answer = streams::start(kind, store, fill);
     match answer.said {
-        Said::Done => turns(system, way, answer.stream, store, &mut room, &mut out),
-        Said::Refused(number) => refused(system, number, 0),
+        Ok(()) => turns(system, way, answer.stream, store, &mut room, &mut out),
+        Err(number) => refused(system, number, 0),
     }
 }
 

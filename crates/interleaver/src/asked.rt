@@ -3,7 +3,6 @@ ghost use Rattle.std.specs.Prelude.{◌≤◌, IfSome};
 
 use super::names;
 use lines::word;
-use lte::Given;
 use named::among;
 use sets::{Factors, Set};
 use system::System;
@@ -73,10 +72,7 @@ pub fn small_number(
 
 // LTE's own factors for a size, and none where it has no row: the test of the set says so then.
 fn standard(n: u32) -> Factors {
-    match lte::factors(n) {
-        Given::Of(f) => f,
-        Given::Refused(_) => sets::NO_FACTORS,
-    }
+    lte::factors(n).unwrap_or(sets::NO_FACTORS)
 }
 
 // f1 and f2 that are named, together; or, where neither is, LTE's own for the size.

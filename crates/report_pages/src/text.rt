@@ -8,7 +8,7 @@ ghost use Rattle.report_pages.specs.Text.{field_text, row_text, rows_text, total
 use super::taken::MOST;
 use report_asked::Asked;
 use system::System;
-use wcdma_report::{Figures, Reported, Summed, Totals};
+use wcdma_report::{Figures, Totals};
 use words::text::{ROOM, put, put_number};
 
 // A number, and what stands behind it.
@@ -35,8 +35,8 @@ fn row_of(system: System, room: &mut [u8; ROOM], from: usize, k: u32) -> usize
     ensures { Put room.old from (row_text (figures k)) room.new result }
 {
     match wcdma_report::figures_of(k) {
-        Reported::Of(f) => row(system, room, from, f),
-        Reported::Refused(_) => from,
+        Ok(f) => row(system, room, from, f),
+        Err(_) => from,
     }
 }
 
@@ -69,8 +69,8 @@ fn total_of(system: System, room: &mut [u8; ROOM], from: usize, first: u32, last
     ensures { Put room.old from (total_text (totals first last)) room.new result }
 {
     match wcdma_report::totals_of(first, last) {
-        Summed::Of(t) => total(system, room, from, t),
-        Summed::Refused(_) => from,
+        Ok(t) => total(system, room, from, t),
+        Err(_) => from,
     }
 }
 

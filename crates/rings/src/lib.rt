@@ -25,6 +25,7 @@ pub fn pass(branches: usize, from: usize, input: &[u8], out: &mut [u8])
     requires { (0 < branches) × (branches < 65536) × (length out.old ≡ length input.now) }
     ensures { Passed branches from input.now out.old out.new }
 {
+    // (A `for` over a `step_by` makes a test more at each byte, of whether there is a next one.)
     let mut i = from;
     while i < input.len() {
         out[i] = input[i];
@@ -48,14 +49,11 @@ fn moves(
     ensures { Stretching branches input.now store.old out.old
         from at (at + count) store.new out.new result (at + count) }
 {
-    let stop = at + count;
     let mut i = from;
-    let mut place = at;
-    while place != stop {
+    for place in at..at + count {
         let byte = input[i];
         out[i] = store[place];
         store[place] = byte;
-        place += 1;
         i += branches;
     }
     i
@@ -101,6 +99,7 @@ pub fn turn(
     ensures { Turned branches first last from at store.old input.now out.old
         store.new out.new result }
 {
+    // (No count of an index: byte, place and what is left go on together, by as much as the ring's end allows.)
     let mut i = from;
     let mut place = at;
     let mut left = count;

@@ -5,6 +5,3 @@ use Rattle.gateway_form.proofs.limits.bytes_below.Given as goal
 
 abbrev pub invariant-loop-i : goal.invariant-loop-i
 invariant-loop-i l = Below l.bytes l.limits l.ok l.i
-
-abbrev pub decreases-loop-i : goal.decreases-loop-i
-decreases-loop-i l = 204 - l.i
