@@ -114,7 +114,7 @@ fn number_all(block: &mut [u8; 48]) {
 }
 
 fn show_moved(system: System, way: Way, src: &[u8; 48], dst: &mut [u8; 48]) {
-    let m = blocks::bytes::move_block(way, least_set(), src, dst);
+    let m = blocks::move_block(way, least_set(), src, dst);
     words::either(system, way, b"interleave bytes,", b"deinterleave bytes,");
     words::set(system, least_set());
     tell_moved(system, m);

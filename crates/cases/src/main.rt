@@ -162,7 +162,7 @@ fn show_block(system: System, way: Way, set: Set, src: &[u8], dst: &mut [u8]) {
     words::set(system, set);
     words::number(system, b" input ", src.len() as u64);
     words::number(system, b" output ", dst.len() as u64);
-    tell_moved(system, blocks::bytes::move_block(way, set, src, dst));
+    tell_moved(system, blocks::move_block(way, set, src, dst));
     words::last(system, b"; bytes written ", looks::written(dst));
 }
 
@@ -189,7 +189,7 @@ fn show_soft(
     src: &[f32; 192],
     dst: &mut [f32; 192],
 ) {
-    let m = blocks::soft::move_block(way, set, src, dst);
+    let m = blocks::move_block(way, set, src, dst);
     words::either(
         system,
         way,

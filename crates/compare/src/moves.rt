@@ -38,8 +38,8 @@ fn block(
     samples(high, src);
     dst.fill(0);
     again.fill(0);
-    let first = blocks::bytes::interleave(set, src, dst);
-    let second = blocks::bytes::deinterleave(set, dst, again);
+    let first = blocks::interleave(set, src, dst);
+    let second = blocks::deinterleave(set, dst, again);
     let refused = u64::from(first.is_err()) + u64::from(second.is_err());
     Count {
         sets: u64::from(!high),
