@@ -34,7 +34,7 @@ fn first_file(system: System) -> Option<usize> {
 // The line of position k. (None is refused: the set was accepted when the files were added.)
 fn put_reading(text: &mut Text, k: u32, r: Reading) {
     match r {
-        Reading::Soft(x) => {
+        Ok(Some(x)) => {
             text.put_number(u64::from(k));
             text.put(b" ");
             text.put(Decimal::of(x.sum).text());
@@ -42,11 +42,11 @@ fn put_reading(text: &mut Text, k: u32, r: Reading) {
             text.put_number(u64::from(x.count));
             text.put(b"\n");
         }
-        Reading::Blank => {
+        Ok(None) => {
             text.put_number(u64::from(k));
             text.put(b" blank\n");
         }
-        Reading::Refused(_) => {}
+        Err(_) => {}
     }
 }
 
@@ -127,7 +127,7 @@ pub fn in_form(system: System) -> bool {
 // `combine`, of the files that the arguments name. A blank block is read first, which tells whether the calls refuse the set, before a file is opened.
 pub fn from_files(system: System, set: Set) {
     let mut block = Block::of(set);
-    if let Reading::Refused(x) = block.read(0) {
+    if let Err(x) = block.read(0) {
         refused(system, x);
         return;
     }
