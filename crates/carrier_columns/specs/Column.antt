@@ -22,10 +22,6 @@ pub record ColumnIn (c n s col row : ℕ) : Type 0 where
   pub row_in : row ≤ n
   pub place_small : c * row + col < 65536
 
--- by division
-pub column_new : (c n s col row : ℕ) → ColumnAt c n s col row (record { base = c * row + (col - col % s); low = col % s; turn = (col + n - row) % s })
-column_new c n s col row = record { low_is = refl; base_is = omega (arith, mod-le col s); turn_is = refl }
-
 -- what a column's steps need
 pub record ColumnStep (c s : ℕ) (at : ColumnSpot) : Type 0 where
   pub s_pos : 0 < s

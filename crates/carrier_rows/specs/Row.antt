@@ -22,21 +22,6 @@ pub record RowIn (d s row col : ℕ) : Type 0 where
   pub place_small : d * col + row < 65536
   pub group_small : d * s < 65536
 
-module _ {d s row col : ℕ} (z : RowIn d s row col) where
-  pub base_fits : d * (col - col % s) + row < 65536
-  base_fits = omega (arith, z.place_small, mul-le-mul_left d (let h : col - col % s ≤ col = omega arith in h))
-
-  pub lift_fits : d * ((col + row) % s) < 65536
-  lift_fits = omega (arith, z.group_small, mul-le-mul_left d (let h = mod-lt (col + row) z.s_pos in let g : (col + row) % s ≤ s = omega arith in g))
-
--- by division
-pub row_new : (d s row col : ℕ) → RowAt d s row col (record { base = d * (col - col % s) + row; low = col % s; lift = d * ((col + row) % s) })
-row_new d s row col = record {
-  low_is = refl;
-  base_is = omega (arith, ap (λ (x : ℕ). d * x) (let h : col ≡ (col - col % s) + col % s = omega (arith, mod-le col s) in h));
-  lift_is = refl;
-}
-
 -- what a row's steps need: top is the last lift, group the addresses that a whole group takes
 pub record RowStep (d s top group : ℕ) (at : RowSpot) : Type 0 where
   pub d_pos : 0 < d
@@ -47,9 +32,6 @@ pub record RowStep (d s top group : ℕ) (at : RowSpot) : Type 0 where
   pub base_small : at.base < 65536
   pub low_small : at.low < 65536
   pub lift_small : at.lift < 65536
-
-pub d_small : {d s top group : ℕ} {at : RowSpot} → RowStep d s top group at → d < 65536
-d_small {d} z = omega (arith, z.group_small, mul-le-mul_left d z.s_pos)
 
 -- the lift of the next turn: d more, or 0 after the last
 module _ {d s : ℕ} (hd : 0 < d) {turn lift : ℕ} (inside : turn < s) (e : lift ≡ d * turn) where

@@ -52,12 +52,6 @@ module _ (c : Couples) (j : ℕ) where
         sym (add-mod (c.p0 * j + q) (c.p0 + r + (c.n - q % c.n)) c.n)
         ∙ same c.n (1 + q / c.n) (c.p0 * (j + 1) + r) (omega (arith, mod-lt q h, mod-add-div q c.n))
 
--- the product of a set-up fits
-pub product_fits : {c : Couples} {j : ℕ} → Block c j → c.p0 * j ≤ 67108864
-product_fits b =
-    let s = b.numbered in
-    mul-le-mul {n₂ = 8192} {m₂ = 8192} (omega (arith, s.below.p0_in, s.small)) (omega (arith, b.cell_in, s.small))
-
 -- what the five numbers are at output j
 pub record SpotAt (c : Couples) (j : ℕ) (at : Spot) : Type 0 where
   pub value_is : at.value ≡ couple_l c j

@@ -66,23 +66,6 @@ spot_next_in {k} {twice} {at} p v d =
       twice_in = p.twice_in;
     }
 
--- the numbers of a set-up fit
-module _ {k f1 f2 t : ℕ} (b : Block k f1 f2 t) where
-  below : {x y : ℕ} → x ≤ k → y ≤ k → x * y ≤ 4294967296
-  below h l = let s = b.whole.small in mul-le-mul {n₂ = 65536} {m₂ = 65536} (omega arith) (omega arith)
-
-  pub linear_fits : f1 * t ≤ 4294967296
-  linear_fits = below (omega (arith, b.whole.first_in)) b.cell_in
-
-  pub twice_fits : f2 * t ≤ 4294967296
-  twice_fits = below (omega (arith, b.whole.second_in)) b.cell_in
-
-  pub square_fits : t * t ≤ 4294967296
-  square_fits = below b.cell_in b.cell_in
-
-  pub quadratic_fits : f2 * (t * t) ≤ 281474976710656
-  quadratic_fits = mul-le-mul {n₂ = 65536} {m₂ = 4294967296} (omega (arith, b.whole.second_in, b.whole.small)) square_fits
-
 -- what the set-up of a loop makes
 pub record Ready (k f1 f2 twice : ℕ) : Type 0 where
   pub whole : Whole k f1 f2
