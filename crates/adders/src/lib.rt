@@ -51,15 +51,13 @@ pub fn judge_by(
     let mut high = false;
     let mut spoiled = false;
     let mut full = false;
-    let mut t = 0;
-    while t < received.len() {
-        let a = table[t] as usize;
+    for (t, v) in received.iter().enumerate() {
+        let a = usize::from(table[t]);
         let p = present[t];
         let count = counts[a];
-        high = high | (p > 1);
-        spoiled = spoiled | positions::is_spoiled(p, received[t], sums[a], count);
-        full = full | positions::is_full(p, count);
-        t += 1;
+        high |= p > 1;
+        spoiled |= positions::is_spoiled(p, *v, sums[a], count);
+        full |= positions::is_full(p, count);
     }
     first_of(high, spoiled, full)
 }
@@ -72,10 +70,8 @@ pub fn add_by(table: &[u16], received: &[f32], present: &[u8], sums: &mut [f32],
     ensures counts_after { counts.new ≡ counts_by (by table.now) (length received.now)
         (reception received.now present.now) (kept sums.old counts.old) }
 {
-    let mut t = 0;
-    while t < received.len() {
-        let a = table[t] as usize;
-        positions::hear(present[t], received[t], a, sums, counts);
-        t += 1;
+    for (t, v) in received.iter().enumerate() {
+        let a = usize::from(table[t]);
+        positions::hear(present[t], *v, a, sums, counts);
     }
 }

@@ -8,7 +8,7 @@ use laws::Way;
 use second::num::plus;
 use second::{Sides, Whole};
 use system::System;
-use wcdma_report::{Figures, Reported, Summed, Totals};
+use wcdma_report::{Figures, Totals};
 
 // The figures of one K; each weighs itself times K + 1. Addresses, cells and padding are counted from the list.
 fn figures(f: Figures, s: Sides, w: Whole) -> Count {
@@ -32,22 +32,20 @@ fn figures(f: Figures, s: Sides, w: Whole) -> Count {
 
 // One K, against the list of K + `off`.
 fn one(k: u32, off: u32) -> Count {
-    let n = std::num::wrapping_add_u32(k, off);
+    let n = k.wrapping_add(off);
     let mut list = [0u16; 12288];
     let w = second::list_of(Way::Interleaver, turbo_set(n), &mut list);
     match wcdma_report::figures_of(k) {
-        Reported::Of(f) => figures(f, second::sides_of(n as usize), w),
-        Reported::Refused(_) => Count::wrong(1),
+        Ok(f) => figures(f, second::sides_of(n as usize), w),
+        Err(_) => Count::wrong(1),
     }
 }
 
-// Every K from the first on and below the end.
-fn sizes(first: u32, end: u32, off: u32) -> Count {
-    let mut c = Count::none();
-    let mut k = first;
-    while k < end {
+// Every K from the first to the last.
+fn sizes(first: u32, last: u32, off: u32) -> Count {
+    let mut c = Count::default();
+    for k in first..=last {
         c = c.with(one(k, off));
-        k += 1;
     }
     c
 }
@@ -73,25 +71,23 @@ fn totals(t: Totals, c: Count) -> Count {
 
 fn range(first: u32, last: u32, c: Count) -> Count {
     match wcdma_report::totals_of(first, last) {
-        Summed::Of(t) => totals(t, c),
-        Summed::Refused(_) => Count::wrong(1),
+        Ok(t) => totals(t, c),
+        Err(_) => Count::wrong(1),
     }
 }
 
 // The sizes from a first K to a last, their totals, and those from 40 to the last.
 fn stretch(first: u32, last: u32, off: u32, so_far: Count) -> Count {
-    let here = sizes(first, std::num::wrapping_add_u32(last, 1), off);
+    let here = sizes(first, last, off);
     let c = so_far.with(here);
     c.with(range(first, last, here)).with(range(40, last, c))
 }
 
 // 145 times 35 sizes: 40 to 5,114.
 fn each(off: u32) -> Count {
-    let mut c = Count::none();
-    let mut i = 0;
-    while i < 145 {
+    let mut c = Count::default();
+    for i in 0..145 {
         c = stretch(i * 35 + 40, i * 35 + 74, off, c);
-        i += 1;
     }
     c
 }

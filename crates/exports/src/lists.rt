@@ -3,7 +3,8 @@ ghost use Rattle.std.specs.Prelude.{◌≡◌, ℕ};
 ghost use Rattle.laws.specs.declared.Way.TheVariants.{Interleaver, Deinterleaver};
 ghost use Rattle.sets.specs.Verdict.{verdict_of, fitting_of};
 ghost use Rattle.lte.specs.Factors.{given_of};
-ghost use Rattle.walks.specs.Answer.{slice_of, found_of, Values};
+ghost use Rattle.walks.specs.declared.Values.{Values};
+ghost use Rattle.walks.specs.Answer.{slice_of, found_of};
 ghost use Rattle.flat.specs.Flat.{set_of, walk_of, lent_walk, number_of, out_of, factors_list};
 
 use flat::{FACTORS, SET};
@@ -14,7 +15,7 @@ use laws::Way;
 pub extern "C" fn interleaver_test(set: &[u32; SET]) -> u32
     ensures { result ≡ number_of (verdict_of (set_of set.now)) }
 {
-    flat::tested(sets::test(flat::set_of(set)))
+    flat::number(sets::test(flat::set_of(set)))
 }
 
 // The size that refusal 3 of the set carries: the least listed N not below its own, or 0 if there is none. 0 where the set isn't refused with 3.

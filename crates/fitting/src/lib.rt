@@ -14,25 +14,12 @@ ghost use Rattle.fitting.specs.Fitting.{fitting};
 use profiles::{Form, admitted_by, group_by, step_by};
 use sizes::Size;
 
-// The greater of two numbers.
-fn at_least(n: u32, u: u32) -> u32
-    ensures { result ≡ max n u }
-{
-    if n < u {
-        return u;
-    }
-    n
-}
-
 // The next size of each form: the least that is not below n, or 0 if there is none. Here the only one, u.
 fn next_single(u: u32, n: u32) -> u32
     requires { 0 < u }
     ensures { Next (λ k. eqb k u) n result }
 {
-    if u < n {
-        return 0;
-    }
-    u
+    if u < n { 0 } else { u }
 }
 
 // Of u and twice, four, eight and sixteen times as much.
@@ -66,11 +53,9 @@ fn next_multiple(u: u32, m: u32, n: u32) -> u32
     if n > m {
         return 0;
     }
-    let up = (at_least(n, 1) + (u - 1)) / u * u;
-    if up > m {
-        return 0;
-    }
-    up
+    // (One division, where `next_multiple_of` of std makes two.)
+    let up = (n.max(1) + (u - 1)) / u * u;
+    if up > m { 0 } else { up }
 }
 
 // Of the numbers from u to m.
@@ -78,11 +63,8 @@ fn next_in_range(u: u32, m: u32, n: u32) -> u32
     requires { 0 < u }
     ensures { Next (λ k. leb u k && leb k m) n result }
 {
-    let first = at_least(n, u);
-    if first > m {
-        return 0;
-    }
-    first
+    let first = n.max(u);
+    if first > m { 0 } else { first }
 }
 
 // Of those that LTE's steps lead to.
@@ -90,7 +72,7 @@ fn next_tiered(u: u32, m: u32, n: u32) -> u32
     requires { (0 < u) × (m < 65536) }
     ensures { Next (size_in Tiered u m 1) n result }
 {
-    let first = at_least(n, u);
+    let first = n.max(u);
     next_multiple(step_by(first), m, first)
 }
 
@@ -99,7 +81,7 @@ fn next_by_four(u: u32, m: u32, n: u32) -> u32
     requires { (0 < u) × (m < 65536) }
     ensures { Next (size_in Fours u m 1) n result }
 {
-    next_multiple(4, m, at_least(n, u))
+    next_multiple(4, m, n.max(u))
 }
 
 // By the profile's form. The bits are listed, so that no product wraps.
@@ -109,17 +91,16 @@ fn next_listed(size: Size) -> u32
 {
     let b = size.bits;
     let n = size.n;
-    let a = admitted_by(size.profile);
-    let u = a.unit * b;
-    let form = a.form;
-    match form {
+    let admitted = admitted_by(size.profile);
+    let u = admitted.unit * b;
+    match admitted.form {
         Form::Only => next_single(u, n),
         Form::Doubled => next_doubling(u, n),
-        Form::Multiple => next_multiple(u, a.limit, n),
-        Form::Grouped => next_multiple(a.unit * group_by(b), a.limit, n),
-        Form::Range => next_in_range(a.unit, a.limit, n),
-        Form::Tiered => next_tiered(a.unit, a.limit, n),
-        Form::Fours => next_by_four(a.unit, a.limit, n),
+        Form::Multiple => next_multiple(u, admitted.limit, n),
+        Form::Grouped => next_multiple(admitted.unit * group_by(b), admitted.limit, n),
+        Form::Range => next_in_range(admitted.unit, admitted.limit, n),
+        Form::Tiered => next_tiered(admitted.unit, admitted.limit, n),
+        Form::Fours => next_by_four(admitted.unit, admitted.limit, n),
     }
 }
 

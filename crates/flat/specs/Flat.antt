@@ -9,7 +9,8 @@ use Rattle.sets.specs.declared.Factors.{Factors}
 use Rattle.sets.specs.declared.Set.{Set}
 use Rattle.sets.specs.declared.Refusal.{Refusal}
 use Rattle.walks.specs.declared.Walk.{Walk}
-use Rattle.walks.specs.Answer.{Values, walked_of}
+use Rattle.walks.specs.declared.Values.{Values}
+use Rattle.walks.specs.Answer.{walked_of}
 use Rattle.families.specs.Symbols.{symbols_of}
 use Rattle.tables.specs.Answer.{moved_of}
 use Rattle.kinds.specs.declared.Stream.{Stream}

@@ -5,18 +5,13 @@
 pub mod records; // records.rt: the record of a byte stream
 
 ghost use Rattle.std.specs.Prelude.{◌≡◌, ℕ};
-ghost use Rattle.sets.specs.Verdict.{say_verdict};
-ghost use Rattle.lte.specs.Factors.{say_given};
-ghost use Rattle.wcdma_report.specs.Report.{say_reported, say_summed};
-ghost use Rattle.walks.specs.Answer.{say_walked, say_found, Values};
-ghost use Rattle.tables.specs.Answer.{say_moved};
+ghost use Rattle.laws.specs.Outcome.{say};
+ghost use Rattle.walks.specs.declared.Values.{Values};
 ghost use Rattle.flat.specs.Flat.{set_of, walk_of, number_by, number_of, out_of, factors_list, figures_list, totals_list};
 
-use lte::Given;
-use sets::{Factors, Set, Verdict};
-use tables::Moved;
+use sets::{Factors, Refusal, Set};
 use walks::{Found, Walk, Walked};
-use wcdma_report::{Reported, Summed};
+use wcdma_report::{Figures, Totals};
 
 // How many numbers a set is.
 pub const SET: usize = 8;
@@ -48,70 +43,61 @@ pub fn set_of(set: &[u32; SET]) -> Set
     }
 }
 
-// The number of a verdict.
-pub fn tested(v: Verdict) -> u32
-    ensures { result ≡ number_of (say_verdict v) }
+// The number of an answer: 0 where the call is done.
+pub fn number<T: Copy>(answer: Result<T, Refusal>) -> u32
+    ensures { result ≡ number_of (say answer) }
 {
-    match v {
-        Verdict::Accepted => 0,
-        Verdict::Refused(x) => x.number,
+    match answer {
+        Ok(_) => 0,
+        Err(x) => x.number,
     }
 }
 
 // Takes the answer of the standard's factors apart.
-pub fn given(g: Given, factors: &mut [u32; FACTORS]) -> u32
-    ensures number { result ≡ number_of (say_given g) }
-    ensures factors { factors.new ≡ out_of (say_given g) factors_list factors.old }
+pub fn given(g: Result<Factors, Refusal>, factors: &mut [u32; FACTORS]) -> u32
+    ensures number { result ≡ number_of (say g) }
+    ensures factors { factors.new ≡ out_of (say g) factors_list factors.old }
 {
-    match g {
-        Given::Of(f) => {
-            *factors = [f.first, f.second, f.third, f.fourth];
-            0
-        }
-        Given::Refused(x) => x.number,
+    if let Ok(f) = g {
+        *factors = [f.first, f.second, f.third, f.fourth];
     }
+    number(g)
 }
 
 // Takes the figures of one K apart.
-pub fn reported(r: Reported, figures: &mut [u32; FIGURES]) -> u32
-    ensures number { result ≡ number_of (say_reported r) }
-    ensures figures { figures.new ≡ out_of (say_reported r) figures_list figures.old }
+pub fn reported(r: Result<Figures, Refusal>, figures: &mut [u32; FIGURES]) -> u32
+    ensures number { result ≡ number_of (say r) }
+    ensures figures { figures.new ≡ out_of (say r) figures_list figures.old }
 {
-    match r {
-        Reported::Of(f) => {
-            *figures = [f.k, f.r, f.c, f.cells, f.pads];
-            0
-        }
-        Reported::Refused(x) => x.number,
+    if let Ok(f) = r {
+        *figures = [f.k, f.r, f.c, f.cells, f.pads];
     }
+    number(r)
 }
 
-// Takes the totals of a range apart.
-pub fn summed(s: Summed, totals: &mut [u32; TOTALS]) -> u32
-    ensures number { result ≡ number_by (λ (k : ℕ). k) (say_summed s) }
-    ensures totals { totals.new ≡ out_of (say_summed s) totals_list totals.old }
+// Takes the totals of a range apart. A range has no set, so a refusal of it is its number.
+pub fn summed(s: Result<Totals, u32>, totals: &mut [u32; TOTALS]) -> u32
+    ensures number { result ≡ number_by (λ (k : ℕ). k) (say s) }
+    ensures totals { totals.new ≡ out_of (say s) totals_list totals.old }
 {
     match s {
-        Summed::Of(t) => {
+        Ok(t) => {
             *totals = [t.sizes, t.cells, t.pads];
             0
         }
-        Summed::Refused(k) => k,
+        Err(k) => k,
     }
 }
 
 // Takes the answer for one address apart.
 pub fn found(f: Found, address: &mut u32) -> u32
-    ensures number { result ≡ number_of (say_found f) }
-    ensures address { address.new ≡ out_of (say_found f) (λ (a : ℕ). a) address.old }
+    ensures number { result ≡ number_of (say f) }
+    ensures address { address.new ≡ out_of (say f) (λ (a : ℕ). a) address.old }
 {
-    match f {
-        Found::At(a) => {
-            *address = a;
-            0
-        }
-        Found::Refused(x) => x.number,
+    if let Ok(a) = f {
+        *address = a;
     }
+    number(f)
 }
 
 // A walk's record, as it is lent.
@@ -124,32 +110,15 @@ pub fn walk_of(set: &[u32; SET], cell: u32) -> Walk
 
 // Takes the answer of a walk apart.
 pub fn walked(w: Walked, cell: &mut u32, written: &mut u32, cells: &mut u32) -> u32
-    ensures number { result ≡ number_of (say_walked w) }
-    ensures cell { cell.new ≡ out_of (say_walked w) (λ (v : Values). v.next.cell) cell.old }
-    ensures written { written.new ≡ out_of (say_walked w) (λ (v : Values). v.written) written.old }
-    ensures cells { cells.new ≡ out_of (say_walked w) (λ (v : Values). v.cells) cells.old }
+    ensures number { result ≡ number_of (say w) }
+    ensures cell { cell.new ≡ out_of (say w) (λ (v : Values). v.next.cell) cell.old }
+    ensures written { written.new ≡ out_of (say w) (λ (v : Values). v.written) written.old }
+    ensures cells { cells.new ≡ out_of (say w) (λ (v : Values). v.cells) cells.old }
 {
-    match w {
-        Walked::Done {
-            written: k,
-            next,
-            cells: c,
-        } => {
-            *cell = next.cell;
-            *written = k;
-            *cells = c;
-            0
-        }
-        Walked::Refused(x) => x.number,
+    if let Ok(v) = w {
+        *cell = v.next.cell;
+        *written = v.written;
+        *cells = v.cells;
     }
-}
-
-// The number of a block's answer.
-pub fn told(m: Moved) -> u32
-    ensures { result ≡ number_of (say_moved m) }
-{
-    match m {
-        Moved::Done => 0,
-        Moved::Refused(x) => x.number,
-    }
+    number(w)
 }

@@ -1,6 +1,7 @@
 // One address, a list of addresses.
 ghost use Rattle.std.specs.Prelude.{◌≡◌, ℕ};
-ghost use Rattle.walks.specs.Answer.{slice_of, found_of, Values};
+ghost use Rattle.walks.specs.declared.Values.{Values};
+ghost use Rattle.walks.specs.Answer.{slice_of, found_of};
 ghost use Rattle.flat.specs.Flat.{set_of, walk_of, lent_walk, number_of, out_of};
 
 use flat::SET;

@@ -14,7 +14,7 @@ pub fn move_bytes(way: Way, set: &[u32; SET], src: &[u8], dst: &mut [u8]) -> u32
     ensures output { dst.new
         ≡ moved way (set_of set.now) 0 src.now dst.old }
 {
-    flat::told(blocks::bytes::move_block(way, flat::set_of(set), src, dst))
+    flat::number(blocks::bytes::move_block(way, flat::set_of(set), src, dst))
 }
 
 // Moves a block of soft values, either way.
@@ -23,7 +23,7 @@ pub fn move_soft(way: Way, set: &[u32; SET], src: &[f32], dst: &mut [f32]) -> u3
     ensures output { dst.new
         ≡ moved way (set_of set.now) nan src.now dst.old }
 {
-    flat::told(blocks::soft::move_block(way, flat::set_of(set), src, dst))
+    flat::number(blocks::soft::move_block(way, flat::set_of(set), src, dst))
 }
 
 // Moves a block of symbols of `width` bytes, either way.
@@ -32,5 +32,5 @@ pub fn move_symbols(way: Way, set: &[u32; SET], width: u32, src: &[u8], dst: &mu
     ensures output { dst.new
         ≡ moved_symbols way (set_of set.now) width src.now dst.old }
 {
-    flat::told(symbols::move_symbols(way, flat::set_of(set), width, src, dst))
+    flat::number(symbols::move_symbols(way, flat::set_of(set), width, src, dst))
 }

@@ -46,7 +46,7 @@ pub fn add(
     ensures counts { counts.new ≡ counts_of (set_of set.now)
         (reception received.now present.now) (kept sums.old counts.old) }
 {
-    flat::told(combine::add(flat::set_of(set), received, present, sums, counts))
+    flat::number(combine::add(flat::set_of(set), received, present, sums, counts))
 }
 
 // Reads a position.

@@ -18,8 +18,6 @@ use Rattle.sets.specs.Verdict.{refusal}
 use Rattle.sets.proofs.Refusals.{refusals_apart}
 use Rattle.sets.specs.OneRow.{OneRow}
 use Rattle.sets.proofs.OneRow.{passes_row}
-use Rattle.lte.specs.declared.Given.{Given}
-use Rattle.lte.specs.declared.Given.TheVariants.{Of, Refused}
 use Rattle.lte.specs.Standard.{Row, standard}
 use Rattle.lte.specs.Table.{first_of, second_of}
 
@@ -43,11 +41,6 @@ standard_factors k = two (first_of k) (second_of k)
 
 unfoldable pub given_of : ℕ → Outcome Refusal Factors
 given_of k = judged (refusal (lte_set k)) (given_lines k) (standard_factors k)
-
--- what an answer says
-abbrev pub say_given : Given → Outcome Refusal Factors
-say_given (Of f) = done f
-say_given (Refused x) = refused x
 
 -- a size that passes is one of the 188, and each of them passes
 pub lte_row : OneRow 8 lte_sizes

@@ -2,8 +2,6 @@
 ghost use Rattle.std.specs.Prelude.{◌≡◌, ◌<◌, get_or};
 ghost use Rattle.lte.specs.Table.{firsts};
 
-use super::wide;
-
 const FIRSTS: [u16; 188] = [
     3, 7, 19, 7, 7, 11, 5, 11, 7, 41, 103, 15, 9, 17, 9, 21, 101, 21, 57, 23, 13, 27, 11, 27, 85,
     29, 33, 15, 17, 33, 103, 19, 19, 37, 19, 21, 21, 115, 193, 21, 133, 81, 45, 23, 243, 151, 155,
@@ -21,5 +19,5 @@ pub(super) fn first_at(i: usize) -> u32
     requires { i < 188 }
     ensures { result ≡ get_or firsts i 0 }
 {
-    wide(FIRSTS[i])
+    u32::from(FIRSTS[i])
 }

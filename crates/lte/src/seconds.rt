@@ -2,8 +2,6 @@
 ghost use Rattle.std.specs.Prelude.{◌≡◌, ◌<◌, get_or};
 ghost use Rattle.lte.specs.Table.{seconds};
 
-use super::wide;
-
 const SECONDS: [u16; 188] = [
     10, 12, 42, 16, 18, 20, 22, 24, 26, 84, 90, 32, 34, 108, 38, 120, 84, 44, 46, 48, 50, 52, 36,
     56, 58, 60, 62, 32, 198, 68, 210, 36, 74, 76, 78, 120, 82, 84, 86, 44, 90, 46, 94, 48, 98, 40,
@@ -21,5 +19,5 @@ pub(super) fn second_at(i: usize) -> u32
     requires { i < 188 }
     ensures { result ≡ get_or seconds i 0 }
 {
-    wide(SECONDS[i])
+    u32::from(SECONDS[i])
 }

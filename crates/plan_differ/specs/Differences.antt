@@ -1,15 +1,11 @@
 -- The differences of two files, in file order: plan by plan, and in a plan position by position. These are definitions; plans are counted from 0 in what
 -- is asked, and from 1 in a difference.
-use Rattle.std.specs.Prelude.{ℕ, zero, suc, max, ◌+◌, ◌-◌, Bool, cond, ◌&&◌, List, [], ◌∷◌, ◌++◌, map, eqb, ltb}
+use Rattle.std.specs.Prelude.{ℕ, zero, suc, max, ◌+◌, ◌-◌, Bool, cond, ◌&&◌, List, [], ◌∷◌, ◌++◌, map, eqb, ltb, Option, Some, None}
 use Rattle.sets.specs.declared.Set.{Set}
 use Rattle.plan_form.specs.Form.{plans_in, set_in, list_in}
 use Rattle.plan_form.specs.Lists.{wrongs_from, place_of}
 use Rattle.plan_differ.specs.declared.Difference.{Difference}
 use Rattle.plan_differ.specs.declared.Difference.TheVariants.{Missing, Header, At}
-use Rattle.plan_differ.specs.declared.Next.{Next}
-use Rattle.plan_differ.specs.declared.Next.TheVariants.{One, Nothing}
-use Rattle.plan_differ.specs.declared.Sought.{Sought}
-use Rattle.plan_differ.specs.declared.Sought.TheVariants as sought
 
 -- profile, bits and N are the same
 unfoldable pub same_header : Set → Set → Bool
@@ -44,10 +40,6 @@ module _ (f g : List ℕ) where
   differences = differ_from 0 0
 
 -- the first of a list, if it has one
-abbrev pub next_of : List Difference → Next
-next_of [] = Nothing
-next_of (d ∷ ds) = One d
-
-abbrev pub sought_of : List ℕ → Sought
-sought_of [] = sought.Nothing
-sought_of (p ∷ ps) = sought.Position p
+abbrev pub next_of : {A : Type 0} → List A → Option A
+next_of [] = None
+next_of (x ∷ xs) = Some x

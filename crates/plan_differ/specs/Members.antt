@@ -1,6 +1,6 @@
 -- Which differences two files have: a plan that only one of them has, a plan with another profile, bits or N, and each position that isn't right of a plan
 -- whose header is the same. Files whose plans agree have none.
-use Rattle.std.specs.Prelude.{ℕ, min, max, ◌+◌, ◌-◌, ◌≤◌, ◌<◌, Bool, cond, ◌&&◌, ◌↔◌, ◌≡◌, length}
+use Rattle.std.specs.Prelude.{Option, ℕ, min, max, ◌+◌, ◌-◌, ◌≤◌, ◌<◌, Bool, cond, ◌&&◌, ◌↔◌, ◌≡◌, length}
 use Rattle.std.proofs.Math.Bool.{true, false}
 use Rattle.std.proofs.lemmas.Bool.{false≢true}
 use mathlib.Core.List.Memᴰ
@@ -13,7 +13,6 @@ use borrow.Author.Tests.{lt-ltb, ltb-true, ltb-false, eq-eqb, eqb-true}
 use Rattle.laws.specs.Members.{both, in_chained, of_chained}
 use Rattle.laws.specs.Run.{run, mem_run, run_mem}
 use Rattle.sets.specs.declared.Set.{Set}
-use Rattle.plan_form.specs.declared.Place.{Place}
 use Rattle.plan_form.specs.Form.{plans_in, set_in, set_of, list_in}
 use Rattle.plan_form.specs.Lists.{wrongs, place_of}
 use Rattle.plan_form.specs.Right.{Right, wrong_positions}
@@ -35,7 +34,7 @@ module _ (f g : List ℕ) where
     pub not_both : min (plans_in f) (plans_in g) < plan
 
   -- a position that isn't right, with what stands there
-  pub record Apart (plan position : ℕ) (left right : Place) : Type 0 where
+  pub record Apart (plan position : ℕ) (left right : Option ℕ) : Type 0 where
     pub both_have : Both plan
     pub same_header_lem : set_in f (plan - 1) ≡ set_in g (plan - 1)
     pub below : position < max (length (list_in f (plan - 1))) (length (list_in g (plan - 1)))
@@ -144,7 +143,7 @@ module _ (f g : List ℕ) where
     )
         (rw (same_says (plan - 1) h.same_header_lem)
         (Memᴰ.cast
-        (ap₂ (λ (a b : Place). At plan position a b) h.left_is h.right_is
+        (ap₂ (λ (a b : Option ℕ). At plan position a b) h.left_is h.right_is
         ∙ ap (λ (k : ℕ). At k position (place_of (list_in f (plan - 1)) position) (place_of (list_in g (plan - 1)) position)) (let e : plan ≡ plan - 1 + 1 = omega (arith, h.both_have.some) in e))
         (Memᴰ.map (difference_at f g (plan - 1)) ((wrong_positions (list_in f (plan - 1)) (list_in g (plan - 1)) position).1 (h.below, h.not_right))))),
   )

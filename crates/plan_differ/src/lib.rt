@@ -2,15 +2,16 @@
 // Plans are counted from 0 in what is asked, and from 1 in what is answered.
 #![tactic(auto)]
 
-ghost use Rattle.std.specs.Prelude.{◌≡◌, max, ◌<◌};
+ghost use Rattle.std.specs.Prelude.{◌≡◌, ◌<◌};
 ghost use Rattle.plan_form.specs.Form.{set_in};
 ghost use Rattle.plan_form.specs.Lists.{Inside, Proper, Having, agree, wrongs_from, list_at};
-ghost use Rattle.plan_differ.specs.Differences.{same_header, sought_of, next_of, lists_differ, plan_differs, differ_from};
+ghost use Rattle.plan_differ.specs.Differences.{same_header, next_of, lists_differ, plan_differs, differ_from};
 ghost use Rattle.plan_differ.specs.Seeking.{Below};
 
-use plan_form::{Listing, Place};
+use plan_form::Listing;
 
-// A difference: a plan that only one file has, a plan with another profile, bits or N, or a position with what stands there in each file.
+// A difference: a plan that only one file has, a plan with another profile, bits or N, or a position with the address there in each file, where it
+// has one.
 #[derive(Clone, Copy)]
 pub enum Difference {
     Missing(u32),
@@ -18,29 +19,9 @@ pub enum Difference {
     At {
         plan: u32,
         position: u32,
-        left: Place,
-        right: Place,
+        left: Option<u32>,
+        right: Option<u32>,
     },
-}
-
-// The next difference, if there is one.
-#[derive(Clone, Copy)]
-pub enum Next {
-    One(Difference),
-    Nothing,
-}
-
-// A position that was looked for.
-#[derive(Clone, Copy)]
-pub enum Sought {
-    Position(usize),
-    Nothing,
-}
-
-fn larger(a: usize, b: usize) -> usize
-    ensures { result ≡ max a b }
-{
-    if a < b { b } else { a }
 }
 
 // Whether both lists have a position, with the same address there.
@@ -58,20 +39,17 @@ fn same_at(left: &[u8], one: Listing, right: &[u8], two: Listing, p: usize) -> b
 }
 
 // The first position from a place on at which two lists differ.
-fn seek(left: &[u8], one: Listing, right: &[u8], two: Listing, from: usize) -> Sought
+fn seek(left: &[u8], one: Listing, right: &[u8], two: Listing, from: usize) -> Option<usize>
     requires { Inside left.now one × Inside right.now two }
-    ensures value { result ≡ sought_of (wrongs_from (list_at left.now one) (list_at right.now two) from) }
+    ensures value { result ≡ next_of (wrongs_from (list_at left.now one) (list_at right.now two) from) }
     ensures below { Below result }
 {
-    let most = larger(one.count, two.count);
-    let mut p = from;
-    while p < most {
+    for p in from..one.count.max(two.count) {
         if !same_at(left, one, right, two, p) {
-            return Sought::Position(p);
+            return Some(p);
         }
-        p += 1;
     }
-    Sought::Nothing
+    None
 }
 
 // Whether plan i has the same profile, bits and N in both files.
@@ -85,66 +63,51 @@ fn same_header(left: &[u8], right: &[u8], i: usize) -> bool
 }
 
 // The next difference of the lists of plan i, from a position on.
-fn differ_lists(left: &[u8], right: &[u8], i: usize, from: usize) -> Next
+fn differ_lists(left: &[u8], right: &[u8], i: usize, from: usize) -> Option<Difference>
     requires { Having left.now i × Having right.now i × (i < 16) }
     ensures { result ≡ next_of (lists_differ left.now right.now i from) }
 {
-    let plan = (i + 1) as u32;
     let one = plan_form::listing_at(left, i);
     let two = plan_form::listing_at(right, i);
-    let s = seek(left, one, right, two, from);
-    match s {
-        Sought::Nothing => Next::Nothing,
-        Sought::Position(p) => {
-            let position = p as u32;
-            let here = plan_form::place_at(left, one, p);
-            let there = plan_form::place_at(right, two, p);
-            Next::One(Difference::At {
-                plan,
-                position,
-                left: here,
-                right: there,
-            })
-        }
-    }
+    let p = seek(left, one, right, two, from)?;
+    Some(Difference::At {
+        plan: (i + 1) as u32,
+        position: p as u32,
+        left: plan_form::place_at(left, one, p),
+        right: plan_form::place_at(right, two, p),
+    })
 }
 
 // The next difference of plan i, from a position on.
-fn differ_plan(left: &[u8], right: &[u8], i: usize, from: usize) -> Next
+fn differ_plan(left: &[u8], right: &[u8], i: usize, from: usize) -> Option<Difference>
     requires { Proper left.now × Proper right.now × (i < 16) }
     ensures { result ≡ next_of (plan_differs left.now right.now i from) }
 {
     let plan = (i + 1) as u32;
     if plan_form::plans_in(left) <= i {
-        return Next::One(Difference::Missing(plan));
+        return Some(Difference::Missing(plan));
     }
     if plan_form::plans_in(right) <= i {
-        return Next::One(Difference::Missing(plan));
+        return Some(Difference::Missing(plan));
     }
     if !same_header(left, right, i) {
-        return Next::One(Difference::Header(plan));
+        return Some(Difference::Header(plan));
     }
     differ_lists(left, right, i, from)
 }
 
 // The next difference of two files, from position `from` of plan i on.
-pub fn differ_from(left: &[u8], right: &[u8], i: usize, from: usize) -> Next
+pub fn differ_from(left: &[u8], right: &[u8], i: usize, from: usize) -> Option<Difference>
     requires { Proper left.now × Proper right.now }
     ensures { result ≡ next_of (differ_from left.now right.now i from) }
 {
-    let most = larger(plan_form::plans_in(left), plan_form::plans_in(right));
-    let mut k = i;
+    let most = plan_form::plans_in(left).max(plan_form::plans_in(right));
     let mut p = from;
-    while k < most {
-        match differ_plan(left, right, k, p) {
-            Next::One(d) => {
-                return Next::One(d);
-            }
-            Next::Nothing => {
-                k += 1;
-                p = 0;
-            }
+    for k in i..most {
+        if let Some(d) = differ_plan(left, right, k, p) {
+            return Some(d);
         }
+        p = 0;
     }
-    Next::Nothing
+    None
 }

@@ -1,14 +1,12 @@
 -- Two lists of addresses, position by position: where they differ, a missing or surplus place among them. And a list of a file: where it stands, and what
 -- stands in it.
-use Rattle.std.specs.Prelude.{ℕ, max, ◌+◌, ◌*◌, ◌-◌, ◌≤◌, ◌<◌, Bool, true, not, cond, ◌&&◌, List, ◌≡◌, eqb, ltb, length, get_or}
+use Rattle.std.specs.Prelude.{ℕ, max, ◌+◌, ◌*◌, ◌-◌, ◌≤◌, ◌<◌, Bool, true, not, cond, ◌&&◌, List, Option, Some, None, ◌≡◌, eqb, ltb, length, get_or}
 use Rattle.std.proofs.Common.{sym, ap₂, ◌∙◌, zero-add, arith, lt-ltb, le-ltb}
 use Rattle.std.proofs.Math.Path.{ap}
 use Rattle.laws.specs.Run.{length_run, get_or_run}
 use Rattle.laws.specs.Kept.{passing}
 use Rattle.big_end.specs.Numbers.{pair_at}
 use Rattle.plan_form.specs.declared.Listing.{Listing}
-use Rattle.plan_form.specs.declared.Place.{Place}
-use Rattle.plan_form.specs.declared.Place.TheVariants.{Absent, Address}
 use Rattle.plan_form.specs.Form.{entry_place, plans_in, offset_in, count_in, addresses_at, list_in, formed}
 use Rattle.plan_form.specs.Meets.{formed_is, entry_inside, list_inside}
 
@@ -27,9 +25,9 @@ wrongs_from xs ys p = passing (wrong xs ys) p (max (length xs) (length ys) - p)
 abbrev pub wrongs : List ℕ → List ℕ → List ℕ
 wrongs xs ys = wrongs_from xs ys 0
 
--- what stands at a position of a list
-abbrev pub place_of : List ℕ → ℕ → Place
-place_of l p = cond (ltb p (length l)) (Address (get_or l p 0)) Absent
+-- the address at a position of a list, which has none past its end
+abbrev pub place_of : List ℕ → ℕ → Option ℕ
+place_of l p = cond (ltb p (length l)) (Some (get_or l p 0)) None
 
 -- the list that stands there in a file
 abbrev pub list_at : List ℕ → Listing → List ℕ
@@ -50,12 +48,12 @@ module _ (f : List ℕ) (list : Listing) where
   listed_address p h =
       get_or_run (λ t. pair_at f (list.offset + 2 * t)) 0 list.count p 0 h ∙ ap (λ (t : ℕ). pair_at f (list.offset + 2 * t)) (zero-add p)
 
-  pub place_absent : (p : ℕ) → list.count ≤ p → Absent ≡ place_of (list_at f list) p
+  pub place_absent : (p : ℕ) → list.count ≤ p → None ≡ place_of (list_at f list) p
   place_absent p h = sym (rw (le-ltb p (length (list_at f list)) (omega (arith, listed_length))))
 
-  pub place_address : (p : ℕ) → p < list.count → {a : ℕ} → a ≡ pair_at f (list.offset + 2 * p) → Address a ≡ place_of (list_at f list) p
+  pub place_address : (p : ℕ) → p < list.count → {a : ℕ} → a ≡ pair_at f (list.offset + 2 * p) → Some a ≡ place_of (list_at f list) p
   place_address p h q =
-      ap Address (q ∙ sym (listed_address p h)) ∙ sym (rw (lt-ltb p (length (list_at f list)) (omega (arith, listed_length))))
+      ap (λ (a : ℕ). Some a) (q ∙ sym (listed_address p h)) ∙ sym (rw (lt-ltb p (length (list_at f list)) (omega (arith, listed_length))))
 
 -- a file of the form, with what its readers ask of its numbers
 pub record Proper (f : List ℕ) : Type 0 where
@@ -80,6 +78,7 @@ having {f} {i} e h = let z = formed_is f e in record { is_formed = e; has = h; e
 pub record Listed (f : List ℕ) (i : ℕ) (list : Listing) : Type 0 where
   pub offset_is : list.offset ≡ offset_in f i
   pub count_is : list.count ≡ count_in f i
+  pub count_small : list.count < 4294967296
 
 module _ {f : List ℕ} {i : ℕ} {list : Listing} (l : Listed f i list) where
   pub listed_list : list_at f list ≡ list_in f i

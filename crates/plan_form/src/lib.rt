@@ -7,7 +7,7 @@ ghost use Rattle.laws.specs.Outcome.{first};
 ghost use Rattle.sets.specs.Verdict.{say_ruled};
 ghost use Rattle.plan_form.specs.Form.{plans_in, set_in, entry_place, lists_meet, formed};
 ghost use Rattle.plan_form.specs.Planned.{planned_lines};
-ghost use Rattle.plan_form.specs.Lists.{Inside, Listed, Having, list_at, place_of};
+ghost use Rattle.plan_form.specs.Lists.{Inside, Listed, list_at, place_of};
 
 use sets::{NO_FACTORS, Ruled, Set};
 
@@ -24,13 +24,6 @@ pub const PROFILES: u32 = 5;
 pub struct Listing {
     pub offset: usize,
     pub count: usize,
-}
-
-// What stands at a position of a list.
-#[derive(Clone, Copy)]
-pub enum Place {
-    Absent,
-    Address(u32),
 }
 
 // How many plans the header says.
@@ -63,16 +56,12 @@ fn lists_meet(file: &[u8], plans: usize) -> bool
     ensures { result ≡ lists_meet file.now plans 0 (entry_place plans) }
 {
     let mut at = 4 + 20 * plans;
-    let mut i = 0;
-    while i < plans {
-        let entry = 4 + 20 * i;
-        let offset = big_end::number_at(file, entry + 12) as usize;
-        if offset != at {
+    for i in 0..plans {
+        let list = listing_at(file, i);
+        if list.offset != at {
             return false;
         }
-        let count = big_end::number_at(file, entry + 16) as usize;
-        at = at + 2 * count;
-        i += 1;
+        at += 2 * list.count;
     }
     at == file.len()
 }
@@ -103,7 +92,7 @@ pub fn well_formed(file: &[u8]) -> bool
 
 // Where the list of plan i stands.
 pub fn listing_at(file: &[u8], i: usize) -> Listing
-    requires { Having file.now i }
+    requires { entry_place i + 20 ≤ length file.now }
     ensures { Listed file.now i result }
 {
     let entry = 4 + 20 * i;
@@ -112,15 +101,15 @@ pub fn listing_at(file: &[u8], i: usize) -> Listing
     Listing { offset, count }
 }
 
-// What stands at a position of a list.
-pub fn place_at(file: &[u8], list: Listing, p: usize) -> Place
+// The address at a position of a list, which has none past its end.
+pub fn place_at(file: &[u8], list: Listing, p: usize) -> Option<u32>
     requires { Inside file.now list }
     ensures { result ≡ place_of (list_at file.now list) p }
 {
     if p >= list.count {
-        return Place::Absent;
+        return None;
     }
-    Place::Address(big_end::pair_at(file, list.offset + 2 * p) as u32)
+    Some(u32::from(big_end::pair_at(file, list.offset + 2 * p)))
 }
 
 // Which line of the test of a set applies first: 1 for a profile that plan files don't know, then what the set gets by itself.
@@ -128,7 +117,7 @@ pub fn ruling_of(set: Set) -> Ruled
     ensures { say_ruled result ≡ first (planned_lines set) }
 {
     if set.profile > PROFILES {
-        return Ruled::Stopped(1);
+        return Err(1);
     }
     sets::ruling_of(set)
 }

@@ -1,4 +1,4 @@
-// The profiles, question by question: which family, which numbers, what is admitted. Each function is a table, a branch for each answer, and its promise is
+// The profiles, question by question: which family, which numbers, what is admitted. Each function is a table, an arm for each answer, and its promise is
 // arithmetic: what is proved of a further profile of carriers needs its lines here and in specs/Profiles.antt, which says how far, and no others.
 ghost use Rattle.profiles.specs.Entered.{FamilyEntered, NumbersEntered, AdmittedEntered};
 
@@ -13,71 +13,45 @@ pub(super) const LAST: u32 = 9;
 pub(super) fn family(profile: u32) -> Family
     ensures { FamilyEntered profile result }
 {
-    if profile < 5 {
-        return Family::Carrier;
+    match profile {
+        0..=4 => Family::Carrier,
+        5 => Family::Turbo,
+        8 => Family::Quadratic,
+        9 => Family::Coupled,
+        _ => Family::Spatial,
     }
-    if profile < 6 {
-        return Family::Turbo;
-    }
-    if profile == 8 {
-        return Family::Quadratic;
-    }
-    if profile == 9 {
-        return Family::Coupled;
-    }
-    Family::Spatial
 }
 
 // Which numbers.
 pub(super) fn numbers(profile: u32) -> Numbers
     ensures { NumbersEntered profile result }
 {
-    if profile < 2 {
-        return Numbers {
+    match profile {
+        0..=1 => Numbers {
             d: 12,
             r: 0,
             streams: 1,
-        };
-    }
-    if profile < 5 {
-        return Numbers {
+        },
+        2..=4 => Numbers {
             d: 16,
             r: 0,
             streams: 1,
-        };
-    }
-    if profile < 6 {
-        return Numbers {
-            d: 0,
-            r: 0,
-            streams: 1,
-        };
-    }
-    if profile < 7 {
-        return Numbers {
+        },
+        6 => Numbers {
             d: 13,
             r: 11,
             streams: 4,
-        };
-    }
-    if profile == 8 {
-        return Numbers {
+        },
+        5 | 8 | 9 => Numbers {
             d: 0,
             r: 0,
             streams: 1,
-        };
-    }
-    if profile == 9 {
-        return Numbers {
-            d: 0,
-            r: 0,
-            streams: 1,
-        };
-    }
-    Numbers {
-        d: 18,
-        r: 29,
-        streams: 4,
+        },
+        _ => Numbers {
+            d: 18,
+            r: 29,
+            streams: 4,
+        },
     }
 }
 
@@ -85,74 +59,60 @@ pub(super) fn numbers(profile: u32) -> Numbers
 pub(super) fn admitted(profile: u32) -> Admitted
     ensures { AdmittedEntered profile result }
 {
-    if profile < 2 {
-        return Admitted {
+    match profile {
+        0..=1 => Admitted {
             bits: Bits::Each,
             form: Form::Doubled,
             unit: 12,
             limit: 0,
-        };
-    }
-    if profile < 3 {
-        return Admitted {
+        },
+        2 => Admitted {
             bits: Bits::Even,
             form: Form::Multiple,
             unit: 48,
             limit: 576,
-        };
-    }
-    if profile < 4 {
-        return Admitted {
+        },
+        3 => Admitted {
             bits: Bits::Each,
             form: Form::Only,
             unit: 48,
             limit: 0,
-        };
-    }
-    if profile < 5 {
-        return Admitted {
+        },
+        4 => Admitted {
             bits: Bits::Each,
             form: Form::Grouped,
             unit: 16,
             limit: 1536,
-        };
-    }
-    if profile < 6 {
-        return Admitted {
+        },
+        5 => Admitted {
             bits: Bits::One,
             form: Form::Range,
             unit: 40,
             limit: 5114,
-        };
-    }
-    if profile < 7 {
-        return Admitted {
+        },
+        6 => Admitted {
             bits: Bits::Each,
             form: Form::Only,
             unit: 52,
             limit: 0,
-        };
-    }
-    if profile == 8 {
-        return Admitted {
+        },
+        8 => Admitted {
             bits: Bits::One,
             form: Form::Tiered,
             unit: 40,
             limit: 6144,
-        };
-    }
-    if profile == 9 {
-        return Admitted {
+        },
+        9 => Admitted {
             bits: Bits::One,
             form: Form::Fours,
             unit: 24,
             limit: 2400,
-        };
-    }
-    Admitted {
-        bits: Bits::Each,
-        form: Form::Only,
-        unit: 108,
-        limit: 0,
+        },
+        _ => Admitted {
+            bits: Bits::Each,
+            form: Form::Only,
+            unit: 108,
+            limit: 0,
+        },
     }
 }

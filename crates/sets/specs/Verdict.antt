@@ -1,13 +1,9 @@
 -- The test of a set: refusals 1, 2 and 3 of document 01, which are of its size, 16, which is of its stream (specs/Stream.antt), and then 11 and 10,
 -- which are of its factors (specs/Beside.antt).
-use Rattle.std.specs.Prelude.{ℕ, not, cond, List, [], ◌∷◌, ◌++◌, ◌≡◌, refl, eqb}
+use Rattle.std.specs.Prelude.{ℕ, not, cond, List, [], ◌∷◌, ◌++◌, ◌≡◌, refl, eqb, Result, Ok, Err}
 use Rattle.laws.specs.Outcome.{Outcome, done, refused, apart, Line, line, Ruling, clear, stopped, first, judged}
 use Rattle.sets.specs.declared.Set.{Set}
 use Rattle.sets.specs.declared.Refusal.{Refusal}
-use Rattle.sets.specs.declared.Ruled.{Ruled}
-use Rattle.sets.specs.declared.Ruled.TheVariants.{Clear, Stopped}
-use Rattle.sets.specs.declared.Verdict.{Verdict}
-use Rattle.sets.specs.declared.Verdict.TheVariants.{Accepted, Refused}
 use Rattle.sizes.specs.declared.Size.{Size}
 use Rattle.sets.specs.Set.{size_of}
 use Rattle.sizes.specs.Tests.{profile_listed, bits_listed, size_listed}
@@ -30,14 +26,13 @@ set_lines s = size_lines (size_of s) ++ (stream_lines s ++ beside_lines s)
 unfoldable pub refusal : Set → ℕ → Refusal
 refusal s k = record { number = k; size = cond (eqb k 3) (fitting (size_of s)) 0 }
 
--- what answers say
-abbrev pub say_ruled : Ruled → Ruling
-say_ruled Clear = clear
-say_ruled (Stopped k) = stopped k
+-- which line of the test applies first, as the code has it, and what that says
+abbrev pub Ruled : Type 0
+Ruled = Result (Unit {0}) ℕ
 
-abbrev pub say_verdict : Verdict → Outcome Refusal (Unit {0})
-say_verdict Accepted = done tt
-say_verdict (Refused x) = refused x
+abbrev pub say_ruled : Ruled → Ruling
+say_ruled (Ok u) = clear
+say_ruled (Err k) = stopped k
 
 -- which line of the test applies first
 abbrev pub ruling_of : Set → Ruling
@@ -71,20 +66,9 @@ pub rulings_apart : (a b : Ruled) → say_ruled a ≡ say_ruled b → a ≡ b
 rulings_apart = apart say_ruled read same
   where
     read : Ruling → Ruled
-    read clear = Clear
-    read (stopped k) = Stopped k
+    read clear = Ok tt
+    read (stopped k) = Err k
 
     same : (a : Ruled) → read (say_ruled a) ≡ a
-    same Clear = refl
-    same (Stopped k) = refl
-
-pub verdicts_apart : (a b : Verdict) → say_verdict a ≡ say_verdict b → a ≡ b
-verdicts_apart = apart say_verdict read same
-  where
-    read : Outcome Refusal (Unit {0}) → Verdict
-    read (done u) = Accepted
-    read (refused x) = Refused x
-
-    same : (a : Verdict) → read (say_verdict a) ≡ a
-    same Accepted = refl
-    same (Refused x) = refl
+    same (Ok u) = refl
+    same (Err k) = refl

@@ -35,10 +35,10 @@ pub(super) fn ruling_of(squares: bool, c: Couples) -> Ruled
     ensures { say_ruled result ≡ first (factor_lines squares c) }
 {
     if !factors_in(squares, c) {
-        return Ruled::Stopped(11);
+        return Err(11);
     }
     if !factors_apart(squares, c) {
-        return Ruled::Stopped(10);
+        return Err(10);
     }
-    Ruled::Clear
+    Ok(())
 }

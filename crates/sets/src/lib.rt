@@ -2,9 +2,10 @@
 #![tactic(auto)]
 
 ghost use Rattle.std.specs.Prelude.{◌≡◌, ◌<◌};
+ghost use Rattle.laws.specs.Outcome.{say};
 ghost use Rattle.sets.specs.Set.{family_of, is_turbo, is_spatial, is_quadratic, is_coupled, couples_of, numbers_of, group_of};
 ghost use Rattle.sets.specs.Stream.{stream_listed};
-ghost use Rattle.sets.specs.Verdict.{refusal, say_ruled, say_verdict, ruling_of, verdict_of, fitting_of};
+ghost use Rattle.sets.specs.Verdict.{refusal, say_ruled, ruling_of, verdict_of, fitting_of};
 
 mod beside; // beside.rt: what a set must have beside its size and stream
 
@@ -34,7 +35,8 @@ pub struct Set {
 }
 
 // What a refused call gives back: the number of document 01; and with 3 the least listed N not below the one asked for, or 0 if there is none. With
-// every other number the size is 0.
+// every other number the size is 0. (A number, and no enum of reasons: `refusal` and the lines of every call, which the theorems stand on, name a refusal by
+// its number, as document 01, C and the program do.)
 #[derive(Clone, Copy)]
 pub struct Refusal {
     pub number: u32,
@@ -42,18 +44,10 @@ pub struct Refusal {
 }
 
 // Which line of a set's test applies first, if one does: its number. What a refusal carries beside that is asked for where one is given.
-#[derive(Clone, Copy)]
-pub enum Ruled {
-    Clear,
-    Stopped(u32),
-}
+pub type Ruled = Result<(), u32>;
 
 // The answer of the test of a set.
-#[derive(Clone, Copy)]
-pub enum Verdict {
-    Accepted,
-    Refused(Refusal),
-}
+pub type Verdict = Result<(), Refusal>;
 
 // The factors of a profile that reads none.
 pub const NO_FACTORS: Factors = Factors {
@@ -70,58 +64,29 @@ fn family_of(set: Set) -> Family
     profiles::family_by(set.profile)
 }
 
-// Whether the family is the turbo interleaver's, that of spatial streams, the quadratic interleaver's, or that of couples. (Questions of two answers each,
-// since the compiler makes one comparison of each, and some ten instructions of a match on the families.)
+// Whether the family is the turbo interleaver's, that of spatial streams, the quadratic interleaver's, or that of couples.
 pub fn is_turbo(set: Set) -> bool
     ensures { result ≡ is_turbo (family_of set) }
 {
-    let family = family_of(set);
-    match family {
-        Family::Carrier => false,
-        Family::Spatial => false,
-        Family::Turbo => true,
-        Family::Quadratic => false,
-        Family::Coupled => false,
-    }
+    matches!(family_of(set), Family::Turbo)
 }
 
 pub fn is_spatial(set: Set) -> bool
     ensures { result ≡ is_spatial (family_of set) }
 {
-    let family = family_of(set);
-    match family {
-        Family::Carrier => false,
-        Family::Spatial => true,
-        Family::Turbo => false,
-        Family::Quadratic => false,
-        Family::Coupled => false,
-    }
+    matches!(family_of(set), Family::Spatial)
 }
 
 pub fn is_quadratic(set: Set) -> bool
     ensures { result ≡ is_quadratic (family_of set) }
 {
-    let family = family_of(set);
-    match family {
-        Family::Carrier => false,
-        Family::Spatial => false,
-        Family::Turbo => false,
-        Family::Quadratic => true,
-        Family::Coupled => false,
-    }
+    matches!(family_of(set), Family::Quadratic)
 }
 
 pub fn is_coupled(set: Set) -> bool
     ensures { result ≡ is_coupled (family_of set) }
 {
-    let family = family_of(set);
-    match family {
-        Family::Carrier => false,
-        Family::Spatial => false,
-        Family::Turbo => false,
-        Family::Quadratic => false,
-        Family::Coupled => true,
-    }
+    matches!(family_of(set), Family::Coupled)
 }
 
 // N and the four factors, as the record of couples: P0 to P3 of profile 9. (Of profile 8 its n is K, p0 and p1 are f1 and f2.)
@@ -177,8 +142,7 @@ fn stream_listed(set: Set) -> bool
 }
 
 // Which line of the test applies first: 1, 2, 3, 16, 11, 10, in that order, and nothing more. (`rulings_apart` in specs/Verdict.antt: what is said leaves
-// one answer. The answers of `beside` are given anew: if they were handed on as they are, the compiler would make every call on a set some seven
-// instructions dearer.)
+// one answer.)
 pub fn ruling_of(set: Set) -> Ruled
     ensures { say_ruled result ≡ ruling_of set }
 {
@@ -188,39 +152,33 @@ pub fn ruling_of(set: Set) -> Ruled
         n: set.n,
     };
     if !sizes::profile_listed(size) {
-        return Ruled::Stopped(1);
+        return Err(1);
     }
     if !sizes::bits_listed(size) {
-        return Ruled::Stopped(2);
+        return Err(2);
     }
     if !sizes::size_listed(size) {
-        return Ruled::Stopped(3);
+        return Err(3);
     }
     if !stream_listed(set) {
-        return Ruled::Stopped(16);
+        return Err(16);
     }
     if is_quadratic(set) {
-        match beside::ruling_of(true, couples_of(set)) {
-            Ruled::Stopped(k) => return Ruled::Stopped(k),
-            Ruled::Clear => return Ruled::Clear,
-        }
+        beside::ruling_of(true, couples_of(set))?;
     }
     if is_coupled(set) {
-        match beside::ruling_of(false, couples_of(set)) {
-            Ruled::Stopped(k) => return Ruled::Stopped(k),
-            Ruled::Clear => return Ruled::Clear,
-        }
+        beside::ruling_of(false, couples_of(set))?;
     }
-    Ruled::Clear
+    Ok(())
 }
 
-// The test of a parameter set. (`verdicts_apart` likewise.)
+// The test of a parameter set. (`answers_apart` of laws, specs/Outcome.antt, likewise.)
 pub fn test(set: Set) -> Verdict
-    ensures { say_verdict result ≡ verdict_of set }
+    ensures { say result ≡ verdict_of set }
 {
     match ruling_of(set) {
-        Ruled::Clear => Verdict::Accepted,
-        Ruled::Stopped(k) => Verdict::Refused(refusal_of(set, k)),
+        Ok(()) => Ok(()),
+        Err(k) => Err(refusal_of(set, k)),
     }
 }
 
@@ -230,12 +188,8 @@ pub fn verdict_size(set: Set) -> u32
     ensures { result ≡ fitting_of (verdict_of set) }
 {
     match ruling_of(set) {
-        Ruled::Clear => 0,
-        Ruled::Stopped(k) => {
-            if k == 3 {
-                return fitting::fitting_of(set.profile, set.bits, set.n);
-            }
-            0
-        }
+        Ok(()) => 0,
+        Err(3) => fitting::fitting_of(set.profile, set.bits, set.n),
+        Err(_) => 0,
     }
 }

@@ -16,6 +16,7 @@ pub struct Size {
 }
 
 // The profile is listed.
+#[tactic(auto, unfolding(crate::specs::Tests::profile_listed))]
 pub fn profile_listed(size: Size) -> bool
     ensures { result ≡ profile_listed size }
 {
@@ -23,16 +24,14 @@ pub fn profile_listed(size: Size) -> bool
 }
 
 // The bits are listed for the profile.
+#[tactic(auto, using(crate::specs::Listed::bits_by))]
 pub fn bits_listed(size: Size) -> bool
     ensures { result ≡ bits_listed size }
 {
-    let b = size.bits;
-    let a = admitted_by(size.profile);
-    let bits = a.bits;
-    match bits {
-        Bits::Each => (b == 1) | ((b == 2) | ((b == 4) | (b == 6))),
-        Bits::Even => (b == 2) | ((b == 4) | (b == 6)),
-        Bits::One => b == 1,
+    match admitted_by(size.profile).bits {
+        Bits::Each => matches!(size.bits, 1 | 2 | 4 | 6),
+        Bits::Even => matches!(size.bits, 2 | 4 | 6),
+        Bits::One => size.bits == 1,
     }
 }
 
@@ -45,23 +44,23 @@ fn multiple_of(u: u32, m: u32, n: u32) -> bool
 }
 
 // N is listed for the profile and the bits. The bits are listed, so that no product wraps.
+#[tactic(auto, using(crate::specs::Listed::unit_times))]
 pub fn size_listed(size: Size) -> bool
     requires { (0 < size.bits) × (size.bits < 7) }
     ensures { result ≡ size_listed size }
 {
     let b = size.bits;
     let n = size.n;
-    let a = admitted_by(size.profile);
-    let u = a.unit * b;
-    let form = a.form;
-    match form {
+    let admitted = admitted_by(size.profile);
+    let u = admitted.unit * b;
+    match admitted.form {
         Form::Only => n == u,
         Form::Doubled => (n == u)
             | ((n == 2 * u) | ((n == 4 * u) | ((n == 8 * u) | (n == 16 * u)))),
-        Form::Multiple => multiple_of(u, a.limit, n),
-        Form::Grouped => multiple_of(a.unit * group_by(b), a.limit, n),
-        Form::Range => (a.unit <= n) & (n <= a.limit),
-        Form::Tiered => (a.unit <= n) & ((n <= a.limit) & (n % step_by(n) == 0)),
-        Form::Fours => (a.unit <= n) & ((n <= a.limit) & (n % 4 == 0)),
+        Form::Multiple => multiple_of(u, admitted.limit, n),
+        Form::Grouped => multiple_of(admitted.unit * group_by(b), admitted.limit, n),
+        Form::Range => (admitted.unit <= n) & (n <= admitted.limit),
+        Form::Tiered => (admitted.unit <= n) & ((n <= admitted.limit) & (n % step_by(n) == 0)),
+        Form::Fours => (admitted.unit <= n) & ((n <= admitted.limit) & (n % 4 == 0)),
     }
 }

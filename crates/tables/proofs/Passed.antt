@@ -6,13 +6,12 @@ use Rattle.std.proofs.Math.Path.{ap}
 use native.Mathlib.Omega.{arith}
 use borrow.Author.Tests.{eq-eqb, ne_eqb, eqb-true, not-false}
 use Rattle.laws.specs.declared.Way.TheVariants.{Interleaver}
-use Rattle.laws.specs.declared.Leaf.{Leaf}
 use Rattle.laws.specs.Outcome.{done, refused, clear, first, after, clear_back, first_clear, answer_keeps, answer_clear}
 use Rattle.laws.specs.Loop.{by}
 use Rattle.laws.specs.Perm.{Perm}
 use Rattle.laws.specs.Digits.{high_below}
 use Rattle.laws.specs.Leaves.{holds_l}
-use Rattle.laws.specs.Walk.{Rule}
+use Rattle.laws.specs.Walk.{Rule, Leaf}
 use Rattle.sets.specs.declared.Set.{Set}
 use Rattle.sets.specs.declared.Refusal.{Refusal}
 use Rattle.sets.specs.Set.{family_of, is_coupled}

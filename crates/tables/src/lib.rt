@@ -3,13 +3,14 @@
 #![tactic(auto)]
 
 ghost use Rattle.std.specs.Prelude.{◌≡◌, ◌*◌, ◌≤◌, length};
+ghost use Rattle.laws.specs.Outcome.{say};
 ghost use Rattle.sets.specs.Admits.{Accepted};
 ghost use Rattle.families.specs.Symbols.{symbols_of};
-ghost use Rattle.tables.specs.Answer.{moved_of, say_moved};
+ghost use Rattle.tables.specs.Answer.{moved_of};
 ghost use Rattle.tables.specs.Passed.{Tabled, SizeOf};
 
 use laws::Way;
-use sets::{Refusal, Ruled, Set};
+use sets::{Refusal, Set};
 
 // A table is cleared at each call, so it is the smallest of three that holds a block's symbols. The largest holds any listed block's.
 pub const SMALL: usize = 64;
@@ -19,11 +20,7 @@ pub const MIDDLE: usize = 512;
 pub const LARGE: usize = 6144;
 
 // The answer of a call that moves a block.
-#[derive(Clone, Copy)]
-pub enum Moved {
-    Done,
-    Refused(Refusal),
-}
+pub type Moved = Result<(), Refusal>;
 
 // How many symbols a block has: two for each couple, else N.
 pub fn symbols_of(set: Set) -> usize
@@ -53,21 +50,19 @@ fn length_of(set: Set, width: u32) -> usize
 
 // Judges a block of symbols of `width` bytes, or entries, each, before anything is walked: the set, 1, 2, 3, 16, 11, 10; then the lengths, 5 and 6.
 pub fn judge(set: Set, width: u32, input: usize, output: usize) -> Moved
-    ensures { say_moved result ≡ moved_of set (symbols_of set * width) input output }
+    ensures { say result ≡ moved_of set (symbols_of set * width) input output }
 {
-    match sets::ruling_of(set) {
-        Ruled::Stopped(k) => Moved::Refused(sets::refusal_of(set, k)),
-        Ruled::Clear => {
-            let total = length_of(set, width);
-            if input != total {
-                return Moved::Refused(sets::refusal_of(set, 5));
-            }
-            if output != total {
-                return Moved::Refused(sets::refusal_of(set, 6));
-            }
-            Moved::Done
-        }
+    if let Err(k) = sets::ruling_of(set) {
+        return Err(sets::refusal_of(set, k));
     }
+    let total = length_of(set, width);
+    if input != total {
+        return Err(sets::refusal_of(set, 5));
+    }
+    if output != total {
+        return Err(sets::refusal_of(set, 6));
+    }
+    Ok(())
 }
 
 // Fills a table with the symbols of a block of an accepted set: entry t is the input symbol that output symbol t holds.
@@ -75,7 +70,8 @@ pub fn fill(set: Set, table: &mut [u16])
     requires { Accepted set × (symbols_of set ≤ length table.old) }
     ensures { Tabled set table.new }
 {
-    leaves::walk(Way::Interleaver, set, 0, table);
+    // (from cell 0 the walk for L is never refused)
+    let _ = leaves::walk(Way::Interleaver, set, 0, table);
     if sets::is_coupled(set) {
         couples_walk::symbols::spread(set.n as usize, table);
     }

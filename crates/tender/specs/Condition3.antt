@@ -23,7 +23,8 @@ use Rattle.quadratic.specs.Formula.{quadratic_l}
 use Rattle.couples.specs.Formula.{couple_l}
 use Rattle.walks.specs.declared.Walk.{Walk}
 use Rattle.families.specs.Rules.{rule_in, rule_is}
-use Rattle.walks.specs.Answer.{Values, walked_of, walk_list, walk_cells, walk_padding, walk_next, walk_values}
+use Rattle.walks.specs.declared.Values.{Values}
+use Rattle.walks.specs.Answer.{walked_of, walk_list, walk_cells, walk_padding, walk_next, walk_values}
 use Rattle.walks.specs.Whole.{behind, walk_l_is, walk_m_is}
 use Rattle.walks.specs.Calls.{Call, Handed, joined, ended, examined, rooms}
 use Rattle.walks.specs.Calls as calls

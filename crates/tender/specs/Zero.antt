@@ -11,7 +11,8 @@ use Rattle.sets.specs.Beside.{beside_lines}
 use Rattle.sets.specs.Verdict.{size_lines, set_lines, verdict_of, refusal, refusal_number}
 use Rattle.walks.specs.declared.Walk.{Walk}
 use Rattle.families.specs.Rules.{rule_in}
-use Rattle.walks.specs.Answer.{walk_lines, one_lines, walk_list, walk_cells, walk_next, Values, walk_values, walked_of, found_of}
+use Rattle.walks.specs.declared.Values.{Values}
+use Rattle.walks.specs.Answer.{walk_lines, one_lines, walk_list, walk_cells, walk_next, walk_values, walked_of, found_of}
 use Rattle.tables.specs.Answer.{block_lines, moved_of}
 use Rattle.kinds.specs.declared.Stream.{Stream}
 use Rattle.kinds.specs.Kinds.{start_record}

@@ -6,20 +6,20 @@ use Rattle.std.proofs.Math.Path.{refl, sym, ap}
 use Rattle.std.proofs.Common.{◌∙◌, arith}
 use borrow.Author.Tests.{le-leb, lt-leb}
 use Rattle.laws.specs.declared.Way.{Way}
-use Rattle.laws.specs.Outcome.{Outcome, done, refused, line, first, Ruling, settle, judged, after, kept_front}
-use Rattle.laws.specs.declared.Leaf.{Leaf}
-use Rattle.laws.specs.Walk.{walk_counts, leaf_lines, say_leaf, n_le}
+use Rattle.laws.specs.Outcome.{Outcome, say, done, refused, line, first, Ruling, settle, judged, after, kept_front}
+use Rattle.laws.specs.Walk.{Leaf, walk_counts, leaf_lines, n_le}
 use Rattle.laws.specs.Leaves.{carry, carry_judged}
 use Rattle.sets.specs.declared.Set.{Set}
 use Rattle.sets.specs.declared.Refusal.{Refusal}
 use Rattle.sets.specs.Set.{family_of}
 use Rattle.sets.specs.Verdict.{set_lines, refusal, verdict_of}
 use Rattle.walks.specs.declared.Walk.{Walk}
+use Rattle.walks.specs.declared.Values.{Values}
 use Rattle.families.specs.Rules.{rule_in, barred, lawful_way}
 use Rattle.sets.specs.Admits.{Accepted}
 use Rattle.sets.proofs.Admits.{accepted_front, set_refused}
 use Rattle.families.specs.Taken.{way_lines, WalkLeaf}
-use Rattle.walks.specs.Answer.{walk_lines, one_lines, Values, walk_next, walk_slice, walk_values, walked_of, slice_of, found_of}
+use Rattle.walks.specs.Answer.{walk_lines, one_lines, walk_next, walk_slice, walk_values, walked_of, slice_of, found_of}
 use Rattle.walks.specs.Passed.{onward}
 
 -- a set that is refused is refused by its walk, with 1 where that is not had, and no slice changes
@@ -48,7 +48,7 @@ only_leaf way w e = rw (accepted_front w.set (leaf_lines (rule_in way w.set) w.c
 
 -- then the answer and the slice are the leaf's, carried on
 module _ (way : Way) (w : Walk) (e : Accepted w.set) {old new : List ℕ} {leaf : Leaf} (o : WalkLeaf way w.set w.cell old new leaf) where
-  pub leaf_answer : {r : Outcome Refusal Values} → r ≡ carry (refusal w.set) (onward w) (say_leaf leaf) → r ≡ walked_of way w (length old)
+  pub leaf_answer : {r : Outcome Refusal Values} → r ≡ carry (refusal w.set) (onward w) (say leaf) → r ≡ walked_of way w (length old)
   unfolding walked_of walk_values walk_next
   leaf_answer says =
       let counts = walk_counts w.set.n (rule_in way w.set) w.cell (length old) in

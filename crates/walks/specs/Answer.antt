@@ -1,9 +1,9 @@
 -- What the calls on a set answer, either way: their lines in the order of document 01, with 16 of request 4 and 11 and 10 of request 6
 -- after 3, and without 8, by request 7: 1, 2, 3, 16, 11, 10, 4, 9; their values, and the slice after a walk. A way is a parameter, so that both
 -- walks and both addresses have one definition.
-use Rattle.std.specs.Prelude.{ℕ, ◌+◌, List, [], ◌∷◌, ◌++◌, ◌≡◌, refl, leb, length}
+use Rattle.std.specs.Prelude.{ℕ, ◌+◌, List, [], ◌∷◌, ◌++◌, leb, length}
 use Rattle.laws.specs.declared.Way.{Way}
-use Rattle.laws.specs.Outcome.{Outcome, done, refused, apart, Line, line, judged, after}
+use Rattle.laws.specs.Outcome.{Outcome, Line, line, judged, after}
 use Rattle.laws.specs.Walk.{leaf_lines}
 use Rattle.laws.specs.Walk as along
 use Rattle.sets.specs.declared.Set.{Set}
@@ -11,10 +11,7 @@ use Rattle.sets.specs.declared.Refusal.{Refusal}
 use Rattle.sets.specs.Set.{family_of}
 use Rattle.sets.specs.Verdict.{set_lines, refusal}
 use Rattle.walks.specs.declared.Walk.{Walk}
-use Rattle.walks.specs.declared.Walked.{Walked}
-use Rattle.walks.specs.declared.Walked.TheVariants.{Done, Refused}
-use Rattle.walks.specs.declared.Found.{Found}
-use Rattle.walks.specs.declared.Found.TheVariants as found
+use Rattle.walks.specs.declared.Values.{Values}
 use Rattle.families.specs.Rules.{rule_in, barred}
 
 -- a walk: 1 also where the way is M's and M is not walked, and that stands where 1 does; then 1, 2, 3, 16, 11, 10, and 9, a cell
@@ -45,11 +42,6 @@ module _ (way : Way) (w : Walk) where
   walk_next room = record { set = w.set; cell = w.cell + walk_cells room }
 
 -- the values of a walk: addresses written, the record, cells examined
-pub record Values : Type 0 where
-  pub written : ℕ
-  pub next : Walk
-  pub cells : ℕ
-
 abbrev pub values : ℕ → Walk → ℕ → Values
 values k n c = record { written = k; next = n; cells = c }
 
@@ -66,36 +58,3 @@ slice_of way w old = after (walk_lines way w) (walk_slice way w old) old
 -- what a call for one address has to say: L(x), or M(x)
 unfoldable pub found_of : Way → Set → ℕ → Outcome Refusal ℕ
 found_of way s x = judged (refusal s) (one_lines s x) ((rule_in way s).l x)
-
--- what the answer of a walk says
-abbrev pub say_walked : Walked → Outcome Refusal Values
-say_walked (Done k n c) = done (values k n c)
-say_walked (Refused x) = refused x
-
--- what the answer for one address says
-abbrev pub say_found : Found → Outcome Refusal ℕ
-say_found (found.At x) = done x
-say_found (found.Refused x) = refused x
-
--- two answers that say the same are the same
-pub walks_apart : (a b : Walked) → say_walked a ≡ say_walked b → a ≡ b
-walks_apart = apart say_walked read same
-  where
-    read : Outcome Refusal Values → Walked
-    read (done v) = Done v.written v.next v.cells
-    read (refused x) = Refused x
-
-    same : (a : Walked) → read (say_walked a) ≡ a
-    same (Done k n c) = refl
-    same (Refused x) = refl
-
-pub founds_apart : (a b : Found) → say_found a ≡ say_found b → a ≡ b
-founds_apart = apart say_found read same
-  where
-    read : Outcome Refusal ℕ → Found
-    read (done a) = found.At a
-    read (refused x) = found.Refused x
-
-    same : (a : Found) → read (say_found a) ≡ a
-    same (found.At x) = refl
-    same (found.Refused x) = refl

@@ -17,8 +17,9 @@ use Rattle.laws.specs.Walk as along
 use Rattle.sets.specs.declared.Refusal.{Refusal}
 use Rattle.sets.specs.Verdict.{set_lines, refusal}
 use Rattle.walks.specs.declared.Walk.{Walk}
+use Rattle.walks.specs.declared.Values.{Values}
 use Rattle.families.specs.Rules.{rule_in}
-use Rattle.walks.specs.Answer.{walk_lines, walk_list, walk_cells, walk_next, Values, walk_values, walked_of, slice_of}
+use Rattle.walks.specs.Answer.{walk_lines, walk_list, walk_cells, walk_next, walk_values, walked_of, slice_of}
 
 -- a call: for L or for M, the record it is given, and the slice that is lent to it
 pub record Call : Type 0 where

@@ -5,16 +5,16 @@
 
 ghost use Rattle.std.specs.Prelude.{cond, ◌≡◌, length};
 ghost use Rattle.laws.specs.declared.Way.TheVariants.{Interleaver, Deinterleaver};
-ghost use Rattle.laws.specs.Walk.{say_leaf};
+ghost use Rattle.laws.specs.Outcome.{say};
 ghost use Rattle.laws.specs.Leaves.{Fits, carry};
 ghost use Rattle.sets.specs.Set.{family_of};
 ghost use Rattle.sets.specs.Verdict.{refusal};
 ghost use Rattle.families.specs.Rules.{barred};
-ghost use Rattle.walks.specs.Answer.{walked_of, slice_of, found_of, say_walked, say_found};
+ghost use Rattle.walks.specs.Answer.{walked_of, slice_of, found_of};
 ghost use Rattle.walks.specs.Passed.{onward};
 
 use laws::{Leaf, Way};
-use sets::{Refusal, Ruled, Set};
+use sets::{Refusal, Set};
 
 // A walk's record: a parameter set, and the next cell.
 #[derive(Clone, Copy)]
@@ -23,23 +23,19 @@ pub struct Walk {
     pub cell: u32,
 }
 
-// The answer of a walk: addresses written, the record, cells examined; or the refusal.
+// The values of a walk: addresses written, the record that goes on, cells examined.
 #[derive(Clone, Copy)]
-pub enum Walked {
-    Done {
-        written: u32,
-        next: Walk,
-        cells: u32,
-    },
-    Refused(Refusal),
+pub struct Values {
+    pub written: u32,
+    pub next: Walk,
+    pub cells: u32,
 }
 
+// The answer of a walk.
+pub type Walked = Result<Values, Refusal>;
+
 // The answer for one address.
-#[derive(Clone, Copy)]
-pub enum Found {
-    At(u32),
-    Refused(Refusal),
-}
+pub type Found = Result<u32, Refusal>;
 
 // The refusal of a walk of a set whose test stops with a number: 1 where the walk is not had, before that.
 fn refused_walk(way: Way, set: Set, number: u32) -> Refusal
@@ -54,20 +50,20 @@ fn refused_walk(way: Way, set: Set, number: u32) -> Refusal
 // A walk's answer from its leaf's: the refusal of the number, or the record that goes on.
 fn finish_walk(w: Walk, leaf: Leaf) -> Walked
     requires { Fits w.cell leaf }
-    ensures { say_walked result ≡ carry (refusal w.set) (onward w) (say_leaf leaf) }
+    ensures { say result ≡ carry (refusal w.set) (onward w) (say leaf) }
 {
     match leaf {
-        Leaf::Stopped(k) => Walked::Refused(sets::refusal_of(w.set, k)),
-        Leaf::Went { written, cells } => {
+        Err(k) => Err(sets::refusal_of(w.set, k)),
+        Ok(went) => {
             let cell = w.cell;
-            let seen = cells as u32;
+            let seen = went.cells as u32;
             let mut next = w;
             next.cell = cell + seen;
-            Walked::Done {
-                written: written as u32,
+            Ok(Values {
+                written: went.written as u32,
                 next,
                 cells: seen,
-            }
+            })
         }
     }
 }
@@ -75,22 +71,18 @@ fn finish_walk(w: Walk, leaf: Leaf) -> Walked
 // The walk of a way: writes the addresses of L or M from a cell on, cell by cell, without padding; stops right after the slice is full, or at
 // the cell total. Refusals 1, for M also of profiles 5, 8 and 9, 2, 3, 16, 11, 10, 9.
 pub fn walk_by(way: Way, w: Walk, out: &mut [u16]) -> Walked
-    ensures answer { say_walked result ≡ walked_of way w (length out.old) }
+    ensures answer { say result ≡ walked_of way w (length out.old) }
     ensures slice { out.new ≡ slice_of way w out.old }
 {
-    let v = sets::ruling_of(w.set);
-    match v {
-        Ruled::Stopped(k) => Walked::Refused(refused_walk(way, w.set, k)),
-        Ruled::Clear => {
-            let leaf = leaves::walk(way, w.set, w.cell as usize, out);
-            finish_walk(w, leaf)
-        }
+    if let Err(k) = sets::ruling_of(w.set) {
+        return Err(refused_walk(way, w.set, k));
     }
+    finish_walk(w, leaves::walk(way, w.set, w.cell as usize, out))
 }
 
 // The walk for L.
 pub fn walk_l(w: Walk, out: &mut [u16]) -> Walked
-    ensures answer { say_walked result ≡ walked_of Interleaver w (length out.old) }
+    ensures answer { say result ≡ walked_of Interleaver w (length out.old) }
     ensures slice { out.new ≡ slice_of Interleaver w out.old }
 {
     walk_by(Way::Interleaver, w, out)
@@ -98,7 +90,7 @@ pub fn walk_l(w: Walk, out: &mut [u16]) -> Walked
 
 // The walk for M, of every profile but 5, 8 and 9: a cell is an input position.
 pub fn walk_m(w: Walk, out: &mut [u16]) -> Walked
-    ensures answer { say_walked result ≡ walked_of Deinterleaver w (length out.old) }
+    ensures answer { say result ≡ walked_of Deinterleaver w (length out.old) }
     ensures slice { out.new ≡ slice_of Deinterleaver w out.old }
 {
     walk_by(Way::Deinterleaver, w, out)
@@ -106,30 +98,27 @@ pub fn walk_m(w: Walk, out: &mut [u16]) -> Walked
 
 // One address, of L or M. Refusals 1, 2, 3, 16, 11, 10, 4.
 pub fn address_by(way: Way, set: Set, x: u32) -> Found
-    ensures { say_found result ≡ found_of way set x }
+    ensures { say result ≡ found_of way set x }
 {
-    let v = sets::ruling_of(set);
-    match v {
-        Ruled::Stopped(k) => Found::Refused(sets::refusal_of(set, k)),
-        Ruled::Clear => {
-            if x >= set.n {
-                return Found::Refused(sets::refusal_of(set, 4));
-            }
-            Found::At(leaves::address(way, set, x as usize) as u32)
-        }
+    if let Err(k) = sets::ruling_of(set) {
+        return Err(sets::refusal_of(set, k));
     }
+    if x >= set.n {
+        return Err(sets::refusal_of(set, 4));
+    }
+    Ok(leaves::address(way, set, x as usize) as u32)
 }
 
 // L(t): the input index that output t holds.
 pub fn address_l(set: Set, t: u32) -> Found
-    ensures { say_found result ≡ found_of Interleaver set t }
+    ensures { say result ≡ found_of Interleaver set t }
 {
     address_by(Way::Interleaver, set, t)
 }
 
 // M(k): the output index that input k goes to.
 pub fn address_m(set: Set, k: u32) -> Found
-    ensures { say_found result ≡ found_of Deinterleaver set k }
+    ensures { say result ≡ found_of Deinterleaver set k }
 {
     address_by(Way::Deinterleaver, set, k)
 }

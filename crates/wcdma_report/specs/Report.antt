@@ -1,7 +1,7 @@
 -- The padding report, request 11: "exact figures for every K between" a first and a last, and the last line's "sizes, cells and padding". These are
 -- definitions.
 use Rattle.std.specs.Prelude.{ℕ, ◌+◌, ◌-◌, ◌≤◌, Bool, not, ◌&&◌, List, [], ◌∷◌, leb}
-use Rattle.laws.specs.Outcome.{Outcome, done, refused, Line, line, judged}
+use Rattle.laws.specs.Outcome.{Outcome, Line, line, judged}
 use Rattle.sets.specs.declared.Refusal.{Refusal}
 use Rattle.sets.specs.declared.Set.{Set}
 use Rattle.sets.specs.Set.{no_factors}
@@ -10,10 +10,6 @@ use Rattle.wcdma_shape.specs.Rectangle.{within, rows, cols, cells}
 use Rattle.wcdma.specs.Turbo.{pad_cells}
 use Rattle.wcdma_report.specs.declared.Figures.{Figures}
 use Rattle.wcdma_report.specs.declared.Totals.{Totals}
-use Rattle.wcdma_report.specs.declared.Reported.{Reported}
-use Rattle.wcdma_report.specs.declared.Reported.TheVariants as reported
-use Rattle.wcdma_report.specs.declared.Summed.{Summed}
-use Rattle.wcdma_report.specs.declared.Summed.TheVariants as summed
 use Rattle.wcdma_report.specs.Sum.{sum}
 
 -- K is 40 to 5,114
@@ -55,15 +51,6 @@ totals_lines first last = line 3 (not (is_range first last)) ∷ []
 
 unfoldable pub totals_of : ℕ → ℕ → Outcome ℕ Totals
 totals_of first last = judged (λ k. k) (totals_lines first last) (totals first last)
-
--- what an answer says
-abbrev pub say_reported : Reported → Outcome Refusal Figures
-say_reported (reported.Of f) = done f
-say_reported (reported.Refused x) = refused x
-
-abbrev pub say_summed : Summed → Outcome ℕ Totals
-say_summed (summed.Of t) = done t
-say_summed (summed.Refused k) = refused k
 
 -- 40 ≤ first ≤ last ≤ 5,114
 pub record Between (first last : ℕ) : Type 0 where

@@ -2,9 +2,10 @@
 // first K to a last. Nothing is walked: the cells are R times C, and the padding is what K leaves of them.
 #![tactic(auto)]
 
-ghost use Rattle.std.specs.Prelude.{◌≡◌, ◌≤◌};
+ghost use Rattle.std.specs.Prelude.{◌≡◌};
+ghost use Rattle.laws.specs.Outcome.{say};
 ghost use Rattle.wcdma_shape.specs.Rectangle.{Size};
-ghost use Rattle.wcdma_report.specs.Report.{is_size, is_range, turbo_set, figures, totals, figures_of, totals_of, say_reported, say_summed, Between};
+ghost use Rattle.wcdma_report.specs.Report.{is_size, is_range, turbo_set, figures, totals, figures_of, totals_of, Between};
 
 use sets::{Refusal, Set};
 
@@ -27,18 +28,10 @@ pub struct Totals {
 }
 
 // The figures of one K, or the refusal.
-#[derive(Clone, Copy)]
-pub enum Reported {
-    Of(Figures),
-    Refused(Refusal),
-}
+pub type Reported = Result<Figures, Refusal>;
 
 // The totals, or the number of the refusal.
-#[derive(Clone, Copy)]
-pub enum Summed {
-    Of(Totals),
-    Refused(u32),
-}
+pub type Summed = Result<Totals, u32>;
 
 // Whether K is 40 to 5,114.
 pub fn is_size(k: u32) -> bool
@@ -67,20 +60,13 @@ fn turbo_set(k: u32) -> Set
     }
 }
 
-fn narrow(x: usize) -> u32
-    requires { x ≤ 5160 }
-    ensures { result ≡ x }
-{
-    x as u32
-}
-
 fn figures_in(k: u32) -> Figures
     requires { Size k }
     ensures { result ≡ figures k }
 {
     let z = wcdma_shape::sides_of(k as usize);
-    let r = narrow(z.r);
-    let c = narrow(z.c);
+    let r = z.r as u32;
+    let c = z.c as u32;
     let cells = r * c;
     Figures {
         k,
@@ -93,12 +79,12 @@ fn figures_in(k: u32) -> Figures
 
 // The figures of one K. Refusal 3, where it isn't 40 to 5,114.
 pub fn figures_of(k: u32) -> Reported
-    ensures { say_reported result ≡ figures_of k }
+    ensures { say result ≡ figures_of k }
 {
     if !is_size(k) {
-        return Reported::Refused(sets::refusal_of(turbo_set(k), 3));
+        return Err(sets::refusal_of(turbo_set(k), 3));
     }
-    Reported::Of(figures_in(k))
+    Ok(figures_in(k))
 }
 
 fn totals_in(first: u32, last: u32) -> Totals
@@ -108,23 +94,21 @@ fn totals_in(first: u32, last: u32) -> Totals
     let mut sizes = 0;
     let mut cells = 0;
     let mut pads = 0;
-    let mut k = first;
-    while k <= last {
+    for k in first..last + 1 {
         let f = figures_in(k);
         sizes += 1;
         cells += f.cells;
         pads += f.pads;
-        k += 1;
     }
     Totals { sizes, cells, pads }
 }
 
 // The totals from a first K to a last. Refusal 3, where either isn't 40 to 5,114, or the first is above the last.
 pub fn totals_of(first: u32, last: u32) -> Summed
-    ensures { say_summed result ≡ totals_of first last }
+    ensures { say result ≡ totals_of first last }
 {
     if !is_range(first, last) {
-        return Summed::Refused(3);
+        return Err(3);
     }
-    Summed::Of(totals_in(first, last))
+    Ok(totals_in(first, last))
 }

@@ -7,4 +7,4 @@ pub next_multiple-requires : goal.next_multiple-requires
 next_multiple-requires c = (omega arith, omega arith, c.requires.1)
 
 pub returns : goal.returns
-returns c = next_by_four _ _ _ _ c.requires.0 (rw (← c.at_least.ensures) c.next_multiple.ensures)
+returns c = next_by_four _ _ _ _ c.requires.0 (rw (← c.max.ensures) c.next_multiple.ensures)

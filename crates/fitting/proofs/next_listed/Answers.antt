@@ -25,52 +25,52 @@ positive : (p : ℕ) {a : Admitted} → a ≡ admitted_by p → 0 < a.unit
 positive p e = rw e (unit_small _).0
 
 pub overflow_mul-u : goal.overflow_mul-u
-overflow_mul-u c = record { fits = omega (arith, (by_bits _ c.requires.1 c.admitted_by-a.ensures).1) }
+overflow_mul-u c = record { fits = omega (arith, (by_bits _ c.requires.1 c.admitted_by-admitted.ensures).1) }
 
 pub next_single-requires : goal.next_single-requires
-next_single-requires c = (by_bits _ c.requires.1 c.admitted_by-a.ensures).0
+next_single-requires c = (by_bits _ c.requires.1 c.admitted_by-admitted.ensures).0
 
 pub next_doubling-requires : goal.next_doubling-requires
-next_doubling-requires c = let p = by_bits _ c.requires.1 c.admitted_by-a.ensures in (p.0, omega (arith, p.1))
+next_doubling-requires c = let p = by_bits _ c.requires.1 c.admitted_by-admitted.ensures in (p.0, omega (arith, p.1))
 
 pub next_multiple-requires : goal.next_multiple-requires
-next_multiple-requires c = let p = by_bits _ c.requires.1 c.admitted_by-a.ensures in (p.0, omega (arith, p.1), limited _ c.admitted_by-a.ensures)
+next_multiple-requires c = let p = by_bits _ c.requires.1 c.admitted_by-admitted.ensures in (p.0, omega (arith, p.1), limited _ c.admitted_by-admitted.ensures)
 
-pub overflow_mul-a : goal.overflow_mul-a
-overflow_mul-a c = let g = c.group_by.ensures.result_nonzero in record { fits = omega (arith, (by_group _ c.admitted_by-a.ensures _ g.0 g.1).1) }
+pub overflow_mul-admitted : goal.overflow_mul-admitted
+overflow_mul-admitted c = let g = c.group_by.ensures.result_nonzero in record { fits = omega (arith, (by_group _ c.admitted_by-admitted.ensures _ g.0 g.1).1) }
 
 pub next_multiple-requires-in-Grouped : goal.next_multiple-requires-in-Grouped
 next_multiple-requires-in-Grouped c =
     let g = c.group_by.ensures.result_nonzero in
-    let p = by_group _ c.admitted_by-a.ensures _ g.0 g.1 in
-    (p.0, omega (arith, p.1), limited _ c.admitted_by-a.ensures)
+    let p = by_group _ c.admitted_by-admitted.ensures _ g.0 g.1 in
+    (p.0, omega (arith, p.1), limited _ c.admitted_by-admitted.ensures)
 
 pub next_in_range-requires : goal.next_in_range-requires
-next_in_range-requires c = positive _ c.admitted_by-a.ensures
+next_in_range-requires c = positive _ c.admitted_by-admitted.ensures
 
 pub next_tiered-requires : goal.next_tiered-requires
-next_tiered-requires c = (positive _ c.admitted_by-a.ensures, limited _ c.admitted_by-a.ensures)
+next_tiered-requires c = (positive _ c.admitted_by-admitted.ensures, limited _ c.admitted_by-admitted.ensures)
 
 pub next_by_four-requires : goal.next_by_four-requires
-next_by_four-requires c = (positive _ c.admitted_by-a.ensures, limited _ c.admitted_by-a.ensures)
+next_by_four-requires c = (positive _ c.admitted_by-admitted.ensures, limited _ c.admitted_by-admitted.ensures)
 
 pub returns-in-Only : goal.returns-in-Only
-returns-in-Only c = fitting_by _ c.requires.0 c.requires.1 c.admitted_by-a.ensures c.in-Only.is c.next_single.ensures
+returns-in-Only c = fitting_by _ c.requires.0 c.requires.1 c.admitted_by-admitted.ensures c.in-Only.is c.next_single.ensures
 
 pub returns-in-Doubled : goal.returns-in-Doubled
-returns-in-Doubled c = fitting_by _ c.requires.0 c.requires.1 c.admitted_by-a.ensures c.in-Doubled.is c.next_doubling.ensures
+returns-in-Doubled c = fitting_by _ c.requires.0 c.requires.1 c.admitted_by-admitted.ensures c.in-Doubled.is c.next_doubling.ensures
 
 pub returns-in-Multiple : goal.returns-in-Multiple
-returns-in-Multiple c = fitting_by _ c.requires.0 c.requires.1 c.admitted_by-a.ensures c.in-Multiple.is c.next_multiple.ensures
+returns-in-Multiple c = fitting_by _ c.requires.0 c.requires.1 c.admitted_by-admitted.ensures c.in-Multiple.is c.next_multiple.ensures
 
 pub returns-in-Grouped : goal.returns-in-Grouped
-returns-in-Grouped c = fitting_by _ c.requires.0 c.requires.1 c.admitted_by-a.ensures c.in-Grouped.is (rw (← c.group_by.ensures.value) c.next_multiple-in-Grouped.ensures)
+returns-in-Grouped c = fitting_by _ c.requires.0 c.requires.1 c.admitted_by-admitted.ensures c.in-Grouped.is (rw (← c.group_by.ensures.value) c.next_multiple-in-Grouped.ensures)
 
 pub returns-in-Range : goal.returns-in-Range
-returns-in-Range c = fitting_by _ c.requires.0 c.requires.1 c.admitted_by-a.ensures c.in-Range.is c.next_in_range.ensures
+returns-in-Range c = fitting_by _ c.requires.0 c.requires.1 c.admitted_by-admitted.ensures c.in-Range.is c.next_in_range.ensures
 
 pub returns-in-Tiered : goal.returns-in-Tiered
-returns-in-Tiered c = fitting_by _ c.requires.0 c.requires.1 c.admitted_by-a.ensures c.in-Tiered.is c.next_tiered.ensures
+returns-in-Tiered c = fitting_by _ c.requires.0 c.requires.1 c.admitted_by-admitted.ensures c.in-Tiered.is c.next_tiered.ensures
 
 pub returns-in-Fours : goal.returns-in-Fours
-returns-in-Fours c = fitting_by _ c.requires.0 c.requires.1 c.admitted_by-a.ensures c.in-Fours.is c.next_by_four.ensures
+returns-in-Fours c = fitting_by _ c.requires.0 c.requires.1 c.admitted_by-admitted.ensures c.in-Fours.is c.next_by_four.ensures

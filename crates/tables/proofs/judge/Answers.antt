@@ -8,26 +8,26 @@ use Rattle.tables.proofs.judge.Goals as goal
 
 pub returns-then-input-total : goal.returns-then-input-total
 returns-then-input-total c =
-    let accepted : Accepted c.args.set = clear_accepts _ (sym c.ruling_of.ensures ∙ ap say_ruled c.in-Clear.is) in
+    let accepted : Accepted c.args.set = clear_accepts _ (sym c.ruling_of.ensures ∙ ap say_ruled c.in_default.is) in
     is_five _ _ _ _ accepted c.length_of-total.ensures c.if-input-total.true c.refusal_of-then-input-total.ensures
 
 pub returns-then-output-total : goal.returns-then-output-total
 returns-then-output-total c =
-    let accepted : Accepted c.args.set = clear_accepts _ (sym c.ruling_of.ensures ∙ ap say_ruled c.in-Clear.is) in
+    let accepted : Accepted c.args.set = clear_accepts _ (sym c.ruling_of.ensures ∙ ap say_ruled c.in_default.is) in
     is_six _ _ _ _ accepted c.length_of-total.ensures c.if-input-total.false c.if-output-total.true c.refusal_of-then-output-total.ensures
 
-pub returns-in-Stopped : goal.returns-in-Stopped
-returns-in-Stopped c =
+pub returns-in-Err : goal.returns-in-Err
+returns-in-Err c =
     ap refused c.refusal_of.ensures
-    ∙ block_refused _ _ _ _ (stopped_refuses _ (sym c.ruling_of.ensures ∙ ap say_ruled c.in-Stopped.is))
+    ∙ block_refused _ _ _ _ (stopped_refuses _ (sym c.in-Err.ensures))
 
-pub returns-else-output-total : goal.returns-else-output-total
-returns-else-output-total c =
-    let accepted : Accepted c.args.set = clear_accepts _ (sym c.ruling_of.ensures ∙ ap say_ruled c.in-Clear.is) in
+pub returns : goal.returns
+returns c =
+    let accepted : Accepted c.args.set = clear_accepts _ (sym c.ruling_of.ensures ∙ ap say_ruled c.in_default.is) in
     let e = c.length_of-total.ensures in
     sym (block_served _ _ accepted (c.if-input-total.false ∙ e) (c.if-output-total.false ∙ e))
 
 pub length_of-total-requires : goal.length_of-total-requires
 length_of-total-requires c =
-    let accepted : Accepted c.args.set = clear_accepts _ (sym c.ruling_of.ensures ∙ ap say_ruled c.in-Clear.is) in
+    let accepted : Accepted c.args.set = clear_accepts _ (sym c.ruling_of.ensures ∙ ap say_ruled c.in_default.is) in
     accepted

@@ -9,26 +9,26 @@ use Rattle.walks.proofs.address_by.Goals as goal
 
 pub returns-then-x-set : goal.returns-then-x-set
 returns-then-x-set c =
-    let accepted : Accepted c.args.set = clear_accepts _ (sym c.ruling_of-v.ensures ∙ ap say_ruled c.in-Clear.is) in
+    let accepted : Accepted c.args.set = clear_accepts _ (sym c.ruling_of.ensures ∙ ap say_ruled c.in_default.is) in
     one_past _ _ _ accepted c.if-x-set.true c.refusal_of-then-x-set.ensures
 
 pub address-requires : goal.address-requires
 address-requires c =
-    let accepted : Accepted c.args.set = clear_accepts _ (sym c.ruling_of-v.ensures ∙ ap say_ruled c.in-Clear.is) in
+    let accepted : Accepted c.args.set = clear_accepts _ (sym c.ruling_of.ensures ∙ ap say_ruled c.in_default.is) in
     (accepted, omega (arith, c.if-x-set.false))
 
-pub returns-in-Stopped : goal.returns-in-Stopped
-returns-in-Stopped c =
+pub returns-in-Err : goal.returns-in-Err
+returns-in-Err c =
     ap refused c.refusal_of.ensures
-    ∙ one_refused _ _ _ (stopped_refuses _ (sym c.ruling_of-v.ensures ∙ ap say_ruled c.in-Stopped.is))
+    ∙ one_refused _ _ _ (stopped_refuses _ (sym c.in-Err.ensures))
 
-pub returns-else-x-set : goal.returns-else-x-set
-returns-else-x-set c =
-    let accepted : Accepted c.args.set = clear_accepts _ (sym c.ruling_of-v.ensures ∙ ap say_ruled c.in-Clear.is) in
+pub returns : goal.returns
+returns c =
+    let accepted : Accepted c.args.set = clear_accepts _ (sym c.ruling_of.ensures ∙ ap say_ruled c.in_default.is) in
     one_found _ _ _ accepted (omega (arith, c.if-x-set.false)) c.address.ensures
 
 pub overflow_cast-result : goal.overflow_cast-result
 overflow_cast-result c =
-    let accepted : Accepted c.args.set = clear_accepts _ (sym c.ruling_of-v.ensures ∙ ap say_ruled c.in-Clear.is) in
+    let accepted : Accepted c.args.set = clear_accepts _ (sym c.ruling_of.ensures ∙ ap say_ruled c.in_default.is) in
     let a = c.args in
     omega (arith, c.address.ensures, one_small a.way a.set a.x accepted (omega (arith, c.if-x-set.false)))

@@ -1,5 +1,6 @@
 -- `totals_in` adds up what `figures_in` gives for each size.
-use Prim.Native.Nat.{ℕ, ◌+◌, ◌≤◌}
+use Prim.Native.Nat.{ℕ, ◌+◌, ◌<◌, ◌^◌}
+use native.Mathlib.Omega.{arith}
 use mathlib.Core.Path.{◌≡◌, ap}
 use borrow.Author.Rules.{rules}
 use Rattle.wcdma_shape.specs.Rectangle.{cells}
@@ -18,35 +19,35 @@ pads_here : {f : Figures} (k : ℕ) → f ≡ figures k → f.pads ≡ pad_cells
 unfolding figures
 pads_here k e = ap (λ (f : Figures). f.pads) e
 
-next : {first last n c p k : ℕ} {f : Figures} → Between first last → Summing first last n c p k → k ≤ last → f ≡ figures k
+next : {first last n c p k : ℕ} {f : Figures} → Between first last → Summing first last n c p k → k < last + 1 → f ≡ figures k
     → Summing first last (n + 1) (c + f.cells) (p + f.pads) (k + 1)
-next b s t e = rw (cells_here _ e, pads_here _ e) (summing_more b s t)
+next b s t e = rw (cells_here _ e, pads_here _ e) (summing_more b s (omega arith))
+
+-- and no sum leaves its width
+few : {first last n c p k : ℕ} {f : Figures} → Between first last → Summing first last n c p k → k < last + 1 → f ≡ figures k
+    → (n + 1 < 2 ^ 32) × (c + f.cells < 2 ^ 32) × (p + f.pads < 2 ^ 32)
+few b s t e =
+    let m = next b s t e in
+    let n = sizes_few b m in
+    (omega arith, omega (arith, cells_fit b m), omega (arith, pads_fit b m))
 
 pub loop-k-init : goal.loop-k-init
 loop-k-init c = summing_none c.requires
 
 pub figures_in-f-requires : goal.figures_in-f-requires
-figures_in-f-requires c = size_here c.requires c.loop-k.invariant c.loop-k-test.true
+figures_in-f-requires c = size_here c.requires c.loop-k.invariant (omega (arith, c.loop-k-test.true))
 
 pub overflow_add-sizes : goal.overflow_add-sizes
-overflow_add-sizes c = let n = sizes_few c.requires (next c.requires c.loop-k.invariant c.loop-k-test.true c.figures_in-f.ensures) in search rules
+overflow_add-sizes c = let h = few c.requires c.loop-k.invariant c.loop-k-test.true c.figures_in-f.ensures in search rules
 
 pub overflow_add-cells : goal.overflow_add-cells
-overflow_add-cells c =
-    let s = next c.requires c.loop-k.invariant c.loop-k-test.true c.figures_in-f.ensures in
-    let n = sizes_few c.requires s in
-    let h = cells_fit c.requires s in
-    search rules
+overflow_add-cells c = let h = few c.requires c.loop-k.invariant c.loop-k-test.true c.figures_in-f.ensures in search rules
 
 pub overflow_add-pads : goal.overflow_add-pads
-overflow_add-pads c =
-    let s = next c.requires c.loop-k.invariant c.loop-k-test.true c.figures_in-f.ensures in
-    let n = sizes_few c.requires s in
-    let h = pads_fit c.requires s in
-    search rules
+overflow_add-pads c = let h = few c.requires c.loop-k.invariant c.loop-k-test.true c.figures_in-f.ensures in search rules
 
 pub loop-k-preserved : goal.loop-k-preserved
 loop-k-preserved c = next c.requires c.loop-k.invariant c.loop-k-test.true c.figures_in-f.ensures
 
 pub returns : goal.returns
-returns c = summing_done c.requires c.loop-k.invariant c.loop-k-test.false
+returns c = summing_done c.requires c.loop-k.invariant (omega (arith, c.loop-k-test.false))

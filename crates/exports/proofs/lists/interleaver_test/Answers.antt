@@ -2,4 +2,4 @@
 use Rattle.exports.proofs.lists.interleaver_test.Goals as goal
 
 pub returns : goal.returns
-returns c = rw (← c.set_of.ensures, ← c.test.ensures) c.tested.ensures
+returns c = rw (← c.set_of.ensures, ← c.test.ensures) c.number.ensures

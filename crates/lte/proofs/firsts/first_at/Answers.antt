@@ -5,4 +5,4 @@ use Rattle.lte.proofs.firsts.first_at.Goals as goal
 
 pub returns : goal.returns
 unfolding firsts standard
-returns c = c.wide.ensures
+returns c = c.from.ensures

@@ -5,4 +5,4 @@ use Rattle.lte.proofs.seconds.second_at.Goals as goal
 
 pub returns : goal.returns
 unfolding seconds standard
-returns c = c.wide.ensures
+returns c = c.from.ensures
