@@ -1,6 +1,6 @@
 -- The walk for M, a column at a time. Input k is row k mod d of column k/d; c is N/d. A column's group of s is turned back by one with each
 -- row. The address is base + turn, both stepped by additions.
-use Rattle.std.specs.Prelude.{◌≡◌, refl, ℕ, ◌+◌, ◌-◌, ◌*◌, ◌/◌, ◌%◌, ◌≤◌, ◌<◌}
+use Rattle.std.specs.Prelude.{◌≡◌, ℕ, ◌+◌, ◌-◌, ◌*◌, ◌/◌, ◌%◌, ◌≤◌, ◌<◌}
 use Rattle.std.proofs.Common.{sym, ap, ◌∙◌, mod-lt, mul-zero, mul-le-mul_left, arith}
 use Rattle.std.proofs.Math.Nat.{mod-le, mul-add-mod_self_left, add-mul-mod_self_left, div-add-mod}
 use Rattle.laws.specs.Digits.{high_below}

@@ -4,7 +4,7 @@ use Rattle.std.proofs.Common.{sym, ap, ◌∙◌, subst, mod-lt, mul-le-mul_left
 use Rattle.std.proofs.Math.Nat.{mod-le, div-add-mod}
 use Rattle.laws.specs.Digits.{high_below}
 use Rattle.laws.specs.Sized.{Sized, row_whole}
-use Rattle.laws.specs.Lanes.{Going, going_first, going_next, Lanewise, Part}
+use Rattle.laws.specs.Lanes.{Going, going_next, Lanewise, Part}
 use Rattle.carrier_columns.specs.declared.ColumnSpot.{ColumnSpot}
 use Rattle.carrier.specs.Formula.{carrier_m}
 use Rattle.carrier.proofs.Once.{carrier_once}

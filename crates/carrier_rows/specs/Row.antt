@@ -1,8 +1,8 @@
 -- The walk for L, a row of the output at a time. Cell t is column t mod c of row t/c, c being N/d; a column's group of s is turned by its
 -- row. The address is base + lift, both stepped by additions.
-use Rattle.std.specs.Prelude.{◌≡◌, refl, ℕ, ◌+◌, ◌-◌, ◌*◌, ◌/◌, ◌%◌, ◌≤◌, ◌<◌}
+use Rattle.std.specs.Prelude.{◌≡◌, ℕ, ◌+◌, ◌-◌, ◌*◌, ◌/◌, ◌%◌, ◌<◌}
 use Rattle.std.proofs.Common.{sym, ap, ◌∙◌, mod-lt, mod-eq_of_lt, mul-le-mul_left, mul-zero, arith}
-use Rattle.std.proofs.Math.Nat.{mod-add-mod, mod-le, mod_self, mul-div_cancel_left, mul-add-mod_self_left, div-add-mod}
+use Rattle.std.proofs.Math.Nat.{mod-add-mod, mod_self, mul-div_cancel_left, mul-add-mod_self_left, div-add-mod}
 use Rattle.laws.specs.Digits.{high_below}
 use Rattle.laws.specs.Sized.{Sized, groups_pos, row_length, row_whole}
 use Rattle.carrier_rows.specs.declared.RowSpot.{RowSpot}

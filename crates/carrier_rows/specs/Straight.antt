@@ -1,9 +1,9 @@
 -- The walk for L along a row where s is 1: nothing is turned, and each address is d more than the one before. Rests on Along.
 use Rattle.std.specs.Prelude.{◌≡◌, List, ℕ, ◌+◌, ◌*◌, ◌%◌, ◌<◌, set}
-use Rattle.std.proofs.Common.{sym, ap, ◌∙◌, subst, mod-lt, mul-zero, mul-one, arith}
+use Rattle.std.proofs.Common.{sym, ap, ◌∙◌, mod-lt, mul-zero, arith}
 use Rattle.carrier_rows.specs.declared.RowSpot.{RowSpot}
 use Rattle.carrier_rows.specs.Row.{RowAt}
-use Rattle.carrier_rows.specs.Along.{AlongIn, Along, along_first, address_small, along_next}
+use Rattle.carrier_rows.specs.Along.{AlongIn, Along, address_small, along_next}
 
 -- where such a walk stands
 abbrev pub unturned : ℕ → RowSpot

@@ -2,7 +2,7 @@
 -- cell on, and the search for the output of a couple, as Resting and Seek of laws have them. Rests on the formula of couples.
 use Rattle.std.specs.Prelude.{List, ◌≡◌, ℕ, ◌+◌, ◌-◌, ◌*◌, ◌/◌, ◌%◌, ◌≤◌, ◌<◌}
 use Rattle.std.proofs.Math.Path.{sym, ap, ap₂}
-use Rattle.std.proofs.Common.{◌∙◌, mul-le-mul, arith}
+use Rattle.std.proofs.Common.{◌∙◌, arith}
 use Rattle.std.proofs.Math.Nat.{add-mod, mod-add-div, mod-lt}
 use Rattle.laws.specs.Residue.{same}
 use Rattle.laws.specs.Resting.{Family, WalkOf}

@@ -1,7 +1,7 @@
 -- Where a walk stands and how it steps: the address at t + 1 is that at t and a difference more, which grows by 2·f2, both modulo K. Then the
 -- walk from a cell on, and the search for the position of an address, as Stepped, Resting and Seek of laws have them.
 use Rattle.std.specs.Prelude.{List, ◌≡◌, refl, ℕ, ◌+◌, ◌*◌, ◌%◌, ◌≤◌, ◌<◌}
-use Rattle.std.proofs.Common.{sym, ap, ap₂, ◌∙◌, mod-lt, mul-le-mul, arith}
+use Rattle.std.proofs.Common.{sym, ap, ap₂, ◌∙◌, mod-lt, arith}
 use Rattle.std.proofs.Math.Nat.{add-mod}
 use Rattle.laws.specs.Resting.{Family, StepOf}
 use Rattle.laws.specs.Seek.{Seeking}
