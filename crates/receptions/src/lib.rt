@@ -34,7 +34,7 @@ fn first_file(system: System) -> Option<usize> {
 // The line of position k. (None is refused: the set was accepted when the files were added.)
 fn put_reading(text: &mut Text, k: u32, r: Reading) {
     match r {
-        Ok(Some(x)) => {
+        Reading::Soft(x) => {
             text.put_number(u64::from(k));
             text.put(b" ");
             text.put(Decimal::of(x.sum).text());
@@ -42,11 +42,11 @@ fn put_reading(text: &mut Text, k: u32, r: Reading) {
             text.put_number(u64::from(x.count));
             text.put(b"\n");
         }
-        Ok(None) => {
+        Reading::Blank => {
             text.put_number(u64::from(k));
             text.put(b" blank\n");
         }
-        Err(_) => {}
+        Reading::Refused(_) => {}
     }
 }
 
