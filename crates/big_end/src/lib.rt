@@ -6,22 +6,12 @@ ghost use Rattle.std.specs.Prelude.{◌≡◌, ◌+◌, ◌≤◌, ◌<◌, leng
 ghost use Rattle.std.proofs.lemmas.List.Edits.{sets};
 ghost use Rattle.big_end.specs.Numbers.{number_at, pair_at, number_bytes, pair_bytes};
 
-fn wide(b: u8) -> u32
-    ensures { (result ≡ b) × (result < 256) }
-{
-    b as u32
-}
-
 // The number of 4 bytes at a place.
 pub fn number_at(bytes: &[u8], at: usize) -> u32
     requires { at + 4 ≤ length bytes.now }
     ensures { result ≡ number_at bytes.now at }
 {
-    let a = wide(bytes[at]);
-    let b = wide(bytes[at + 1]);
-    let c = wide(bytes[at + 2]);
-    let d = wide(bytes[at + 3]);
-    ((a * 256 + b) * 256 + c) * 256 + d
+    u32::from_be_bytes([bytes[at], bytes[at + 1], bytes[at + 2], bytes[at + 3]])
 }
 
 // The number of 2 bytes at a place.
@@ -29,9 +19,7 @@ pub fn pair_at(bytes: &[u8], at: usize) -> u16
     requires { at + 2 ≤ length bytes.now }
     ensures { result ≡ pair_at bytes.now at }
 {
-    let a = wide(bytes[at]);
-    let b = wide(bytes[at + 1]);
-    (a * 256 + b) as u16
+    u16::from_be_bytes([bytes[at], bytes[at + 1]])
 }
 
 // Stores a number's 4 bytes.
@@ -39,10 +27,7 @@ pub fn put_number(out: &mut [u8], at: usize, v: u32)
     requires { at + 4 ≤ length out.old }
     ensures { out.new ≡ sets out.old at (number_bytes v) }
 {
-    out[at] = (v / 16777216 % 256) as u8;
-    out[at + 1] = (v / 65536 % 256) as u8;
-    out[at + 2] = (v / 256 % 256) as u8;
-    out[at + 3] = (v % 256) as u8;
+    out[at..at + 4].copy_from_slice(&v.to_be_bytes());
 }
 
 // Stores a number's 2 bytes.
@@ -50,6 +35,5 @@ pub fn put_pair(out: &mut [u8], at: usize, v: u16)
     requires { at + 2 ≤ length out.old }
     ensures { out.new ≡ sets out.old at (pair_bytes v) }
 {
-    out[at] = (v / 256 % 256) as u8;
-    out[at + 1] = (v % 256) as u8;
+    out[at..at + 2].copy_from_slice(&v.to_be_bytes());
 }

@@ -11,6 +11,7 @@ ghost use Rattle.carrier.specs.Block.{Block, Whole};
 ghost use Rattle.carrier_columns.specs.Column.{ColumnAt, ColumnIn, ColumnStep};
 ghost use Rattle.carrier_columns.specs.Down.{DownIn, Down};
 
+use carrier::Carrier;
 use laws::{Leaf, Went};
 use residues::least;
 
@@ -41,12 +42,12 @@ struct ColumnSpot {
 
 impl ColumnSpot {
     // At a row of a column: by division, once a call. c is N/d.
-    fn new(c: usize, n: usize, s: usize, col: usize, row: usize) -> Self
-        requires { ColumnIn c n s col row }
-        ensures { ColumnAt c n s col row result }
+    fn new(b: Carrier, c: usize, col: usize, row: usize) -> Self
+        requires { ColumnIn c b.n b.s col row }
+        ensures { ColumnAt c b.n b.s col row result }
     {
-        let low = col % s;
-        let turn = (col + n - row) % s;
+        let low = col % b.s;
+        let turn = (col + b.n - row) % b.s;
         ColumnSpot {
             base: c * row + (col - low),
             low,
@@ -86,12 +87,10 @@ impl ColumnSpot {
     }
 }
 
-// Writes M of a column's rows from row on, at out[from] to out[stop - 1], and gives back where it then stands. d, n, col and row are there
+// Writes M of a column's rows from row on, at out[from] to out[stop - 1], and gives back where it then stands. d, N, col and row are there
 // for what is promised; c is N/d.
 fn down(
-    d: usize,
-    n: usize,
-    s: usize,
+    b: Carrier,
     c: usize,
     col: usize,
     row: usize,
@@ -100,46 +99,44 @@ fn down(
     from: usize,
     stop: usize,
 ) -> ColumnSpot
-    requires { DownIn d n s c col row start from stop out.old }
-    ensures { Down d n s col row from stop out.old out.new result stop }
+    requires { DownIn b.d b.n b.s c col row start from stop out.old }
+    ensures { Down b.d b.n b.s col row from stop out.old out.new result stop }
 {
     let mut at = start;
-    let mut i = from;
-    while i < stop {
+    for i in from..stop {
         out[i] = at.address() as u16;
-        at = at.next(c, s);
-        i += 1;
+        at = at.next(c, b.s);
     }
     at
 }
 
 // M(k), for k below N.
-pub fn address(d: usize, n: usize, s: usize, k: usize) -> usize
-    requires block { Block d n s k }
-    requires k_lt_n { k < n }
-    ensures { result ≡ carrier_m d n s k }
+pub fn address(b: Carrier, k: usize) -> usize
+    requires block { Block b.d b.n b.s k }
+    requires k_lt_n { k < b.n }
+    ensures { result ≡ carrier_m b.d b.n b.s k }
 {
-    let c = n / d;
-    let col = k / d;
-    let row = k % d;
-    ColumnSpot::new(c, n, s, col, row).address()
+    let c = b.n / b.d;
+    let col = k / b.d;
+    let row = k % b.d;
+    ColumnSpot::new(b, c, col, row).address()
 }
 
 // Writes M from a cell on, as far as there is room and cells; gives back how many.
-pub fn write(d: usize, n: usize, s: usize, cell: usize, out: &mut [u16]) -> usize
-    requires { Block d n s cell }
-    ensures { Ran (carrier_m d n s) n cell out.old out.new result }
+pub fn write(b: Carrier, cell: usize, out: &mut [u16]) -> usize
+    requires { Block b.d b.n b.s cell }
+    ensures { Ran (carrier_m b.d b.n b.s) b.n cell out.old out.new result }
 {
-    let c = n / d;
-    let count = least(out.len(), n - cell);
-    let mut col = cell / d;
-    let mut row = cell % d;
-    let mut at = ColumnSpot::new(c, n, s, col, row);
+    let c = b.n / b.d;
+    let count = least(out.len(), b.n - cell);
+    let mut col = cell / b.d;
+    let mut row = cell % b.d;
+    let mut at = ColumnSpot::new(b, c, col, row);
     let mut i = 0;
     while i < count {
-        let stop = least(count, i + (d - row));
-        let end = down(d, n, s, c, col, row, at, out, i, stop);
-        at = end.next_column(s, col);
+        let stop = least(count, i + (b.d - row));
+        let end = down(b, c, col, row, at, out, i, stop);
+        at = end.next_column(b.s, col);
         col += 1;
         row = 0;
         i = stop;
@@ -148,14 +145,14 @@ pub fn write(d: usize, n: usize, s: usize, cell: usize, out: &mut [u16]) -> usiz
 }
 
 // The walk for M from any cell: 9 past the last, else what is written, and a cell for each address.
-pub fn walk(d: usize, n: usize, s: usize, cell: usize, out: &mut [u16]) -> Leaf
-    requires { Whole d n s }
-    ensures { LeafOf n (back n (carrier_rule d n s)) cell out.old out.new result }
+pub fn walk(b: Carrier, cell: usize, out: &mut [u16]) -> Leaf
+    requires { Whole b.d b.n b.s }
+    ensures { LeafOf b.n (back b.n (carrier_rule b.d b.n b.s)) cell out.old out.new result }
 {
-    if n < cell {
+    if b.n < cell {
         return Err(9);
     }
-    let count = write(d, n, s, cell, out);
+    let count = write(b, cell, out);
     Ok(Went {
         written: count,
         cells: count,

@@ -11,6 +11,7 @@ ghost use Rattle.carrier.specs.Block.{Block, Whole};
 ghost use Rattle.carrier_rows.specs.Row.{RowAt, RowIn, RowStep};
 ghost use Rattle.carrier_rows.specs.Along.{AlongIn, Along};
 
+use carrier::Carrier;
 use laws::{Leaf, Went};
 use residues::least;
 
@@ -34,16 +35,16 @@ struct RowSpot {
 
 impl RowSpot {
     // At a column of a row: by division, once a call.
-    fn new(d: usize, s: usize, row: usize, col: usize) -> Self
-        requires { RowIn d s row col }
-        ensures { RowAt d s row col result }
+    fn new(b: Carrier, row: usize, col: usize) -> Self
+        requires { RowIn b.d b.s row col }
+        ensures { RowAt b.d b.s row col result }
     {
-        let low = col % s;
-        let turn = (col + row) % s;
+        let low = col % b.s;
+        let turn = (col + row) % b.s;
         RowSpot {
-            base: d * (col - low) + row,
+            base: b.d * (col - low) + row,
             low,
-            lift: d * turn,
+            lift: b.d * turn,
         }
     }
 
@@ -55,14 +56,14 @@ impl RowSpot {
     }
 
     // One column on: the turn goes up by one, and after the last of a group the next group begins.
-    fn next(self, d: usize, s: usize, top: usize, group: usize) -> Self
-        requires { RowStep d s top group self }
-        ensures { (row col : ℕ) → RowAt d s row col self → RowAt d s row (col + 1) result }
+    fn next(self, b: Carrier, top: usize, group: usize) -> Self
+        requires { RowStep b.d b.s top group self }
+        ensures { (row col : ℕ) → RowAt b.d b.s row col self → RowAt b.d b.s row (col + 1) result }
     {
         let base = self.base;
         let low = self.low;
-        let lift = lift_up(self.lift, d, top);
-        if low == s - 1 {
+        let lift = lift_up(self.lift, b.d, top);
+        if low == b.s - 1 {
             return RowSpot {
                 base: base + group,
                 low: 0,
@@ -77,12 +78,12 @@ impl RowSpot {
     }
 
     // From the end of a row to the first column of the next.
-    fn next_row(self, d: usize, top: usize, row: usize) -> Self
-        requires { (self.lift < 65536) × (d < 65536) × (row < 65536) }
-        ensures { (n s : ℕ) → Sized d n s → top ≡ d * (s - 1) → RowAt d s row (n / d) self
-            → RowAt d s (row + 1) 0 result }
+    fn next_row(self, b: Carrier, top: usize, row: usize) -> Self
+        requires { (self.lift < 65536) × (b.d < 65536) × (row < 65536) }
+        ensures { Sized b.d b.n b.s → top ≡ b.d * (b.s - 1) → RowAt b.d b.s row (b.n / b.d) self
+            → RowAt b.d b.s (row + 1) 0 result }
     {
-        let lift = lift_up(self.lift, d, top);
+        let lift = lift_up(self.lift, b.d, top);
         RowSpot {
             base: row + 1,
             low: 0,
@@ -94,8 +95,7 @@ impl RowSpot {
 // The part of a row where s is 1: nothing is turned, and an address is d more than the one before. (A loop by itself, so that the compiler can
 // write several at once.)
 fn straight(
-    d: usize,
-    n: usize,
+    b: Carrier,
     row: usize,
     col: usize,
     start: RowSpot,
@@ -103,15 +103,13 @@ fn straight(
     from: usize,
     stop: usize,
 ) -> RowSpot
-    requires { AlongIn d n 1 0 d row col start from stop out.old }
-    ensures { Along d n 1 row col from stop out.old out.new result stop }
+    requires { AlongIn b.d b.n 1 0 b.d row col start from stop out.old }
+    ensures { Along b.d b.n 1 row col from stop out.old out.new result stop }
 {
     let mut a = start.base;
-    let mut i = from;
-    while i < stop {
+    for i in from..stop {
         out[i] = a as u16;
-        a += d;
-        i += 1;
+        a += b.d;
     }
     RowSpot {
         base: a,
@@ -120,12 +118,10 @@ fn straight(
     }
 }
 
-// Writes L of a row's columns from col on, at out[from] to out[stop - 1], and gives back where it then stands. n, row and col are there for
+// Writes L of a row's columns from col on, at out[from] to out[stop - 1], and gives back where it then stands. N, row and col are there for
 // what is promised.
 fn along(
-    d: usize,
-    n: usize,
-    s: usize,
+    b: Carrier,
     top: usize,
     group: usize,
     row: usize,
@@ -135,52 +131,50 @@ fn along(
     from: usize,
     stop: usize,
 ) -> RowSpot
-    requires { AlongIn d n s top group row col start from stop out.old }
-    ensures { Along d n s row col from stop out.old out.new result stop }
+    requires { AlongIn b.d b.n b.s top group row col start from stop out.old }
+    ensures { Along b.d b.n b.s row col from stop out.old out.new result stop }
 {
-    if s == 1 {
-        return straight(d, n, row, col, start, out, from, stop);
+    if b.s == 1 {
+        return straight(b, row, col, start, out, from, stop);
     }
     let mut at = start;
-    let mut i = from;
-    while i < stop {
+    for i in from..stop {
         out[i] = at.address() as u16;
-        at = at.next(d, s, top, group);
-        i += 1;
+        at = at.next(b, top, group);
     }
     at
 }
 
 // L(t), for t below N.
-pub fn address(d: usize, n: usize, s: usize, t: usize) -> usize
-    requires block { Block d n s t }
-    requires t_lt_n { t < n }
-    ensures { result ≡ carrier_l d n s t }
+pub fn address(b: Carrier, t: usize) -> usize
+    requires block { Block b.d b.n b.s t }
+    requires t_lt_n { t < b.n }
+    ensures { result ≡ carrier_l b.d b.n b.s t }
 {
-    let c = n / d;
+    let c = b.n / b.d;
     let row = t / c;
     let col = t % c;
-    RowSpot::new(d, s, row, col).address()
+    RowSpot::new(b, row, col).address()
 }
 
 // Writes L from a cell on, as far as there is room and cells; gives back how many. stop is where the row ends, or the room. N and the
 // cell are divided in 32 bits, which they fit; in 64 that takes longer, or the compiled code asks first whether 32 would do.
-pub fn write(d: usize, n: usize, s: usize, cell: usize, out: &mut [u16]) -> usize
-    requires { Block d n s cell }
-    ensures { Ran (carrier_l d n s) n cell out.old out.new result }
+pub fn write(b: Carrier, cell: usize, out: &mut [u16]) -> usize
+    requires { Block b.d b.n b.s cell }
+    ensures { Ran (carrier_l b.d b.n b.s) b.n cell out.old out.new result }
 {
-    let count = least(out.len(), n - cell);
-    let c = (n as u32 / d as u32) as usize;
-    let top = d * (s - 1);
-    let group = d * s;
+    let count = least(out.len(), b.n - cell);
+    let c = (b.n as u32 / b.d as u32) as usize;
+    let top = b.d * (b.s - 1);
+    let group = b.d * b.s;
     let mut row = (cell as u32 / c as u32) as usize;
     let mut col = (cell as u32 % c as u32) as usize;
     let mut stop = least(count, c - col);
-    let mut at = RowSpot::new(d, s, row, col);
+    let mut at = RowSpot::new(b, row, col);
     let mut i = 0;
     while i < count {
-        let end = along(d, n, s, top, group, row, col, at, out, i, stop);
-        at = end.next_row(d, top, row);
+        let end = along(b, top, group, row, col, at, out, i, stop);
+        at = end.next_row(b, top, row);
         row += 1;
         col = 0;
         i = stop;
@@ -190,11 +184,11 @@ pub fn write(d: usize, n: usize, s: usize, cell: usize, out: &mut [u16]) -> usiz
 }
 
 // The walk for L from any cell: 9 past the last, else what is written, and a cell for each address. With no room nothing is set up.
-pub fn walk(d: usize, n: usize, s: usize, cell: usize, out: &mut [u16]) -> Leaf
-    requires { Whole d n s }
-    ensures { LeafOf n (carrier_rule d n s) cell out.old out.new result }
+pub fn walk(b: Carrier, cell: usize, out: &mut [u16]) -> Leaf
+    requires { Whole b.d b.n b.s }
+    ensures { LeafOf b.n (carrier_rule b.d b.n b.s) cell out.old out.new result }
 {
-    if n < cell {
+    if b.n < cell {
         return Err(9);
     }
     if out.len() == 0 {
@@ -203,7 +197,7 @@ pub fn walk(d: usize, n: usize, s: usize, cell: usize, out: &mut [u16]) -> Leaf
             cells: 0,
         });
     }
-    let count = write(d, n, s, cell, out);
+    let count = write(b, cell, out);
     Ok(Went {
         written: count,
         cells: count,

@@ -5,19 +5,30 @@ ghost use Rattle.std.specs.Prelude.{◌≡◌, ◌<◌};
 ghost use Rattle.profiles.specs.declared.Family.TheVariants.{Carrier};
 ghost use Rattle.families.specs.Rules.{rule_in};
 ghost use Rattle.families.specs.Taken.{Taken, WalkLeaf};
+ghost use Rattle.families.specs.Families.{carrier_of};
 
 use laws::{Leaf, Way};
 use sets::Set;
+
+// The block: d, N and s.
+fn block_of(set: Set) -> carrier::Carrier
+    ensures { result ≡ carrier_of set }
+{
+    carrier::Carrier {
+        d: sets::numbers_of(set).d as usize,
+        n: set.n as usize,
+        s: sets::group_of(set) as usize,
+    }
+}
 
 pub fn walk(way: Way, set: Set, cell: usize, out: &mut [u16]) -> Leaf
     requires { Taken set Carrier }
     ensures { WalkLeaf way set cell out.old out.new result }
 {
-    let d = sets::numbers_of(set).d as usize;
-    let s = sets::group_of(set) as usize;
+    let b = block_of(set);
     match way {
-        Way::Interleaver => carrier_rows::walk(d, set.n as usize, s, cell, out),
-        Way::Deinterleaver => carrier_columns::walk(d, set.n as usize, s, cell, out),
+        Way::Interleaver => carrier_rows::walk(b, cell, out),
+        Way::Deinterleaver => carrier_columns::walk(b, cell, out),
     }
 }
 
@@ -25,10 +36,9 @@ pub fn address(way: Way, set: Set, x: usize) -> usize
     requires { Taken set Carrier × (x < set.n) }
     ensures { result ≡ (rule_in way set).l x }
 {
-    let d = sets::numbers_of(set).d as usize;
-    let s = sets::group_of(set) as usize;
+    let b = block_of(set);
     match way {
-        Way::Interleaver => carrier_rows::address(d, set.n as usize, s, x),
-        Way::Deinterleaver => carrier_columns::address(d, set.n as usize, s, x),
+        Way::Interleaver => carrier_rows::address(b, x),
+        Way::Deinterleaver => carrier_columns::address(b, x),
     }
 }

@@ -1,14 +1,14 @@
 -- What the pieces of a turned walk make up: of L, those on either side of the seam, which is the cell N - v; of M, the walk and the pass that takes
 -- the turn off. Rests on Turned.
-use Rattle.std.specs.Prelude.{ℕ, min, ◌+◌, ◌-◌, ◌%◌, ◌≤◌, ◌<◌, ◌≡◌, length, get_or, take, drop}
+use Rattle.std.specs.Prelude.{ℕ, min, ◌+◌, ◌-◌, ◌≤◌, ◌<◌, ◌≡◌, length, map, take, drop}
 use mathlib.Core.List.{List, ◌++◌, append_assoc}
-use Rattle.std.proofs.Common.{sym, ◌∙◌, zero-add, arith, length-drop, length-append, length-take-le, take_at, drop-drop}
+use Rattle.std.proofs.Common.{sym, ◌∙◌, arith, length-drop, length-append, length-take-le, take_at, drop-drop}
 use Rattle.std.proofs.Math.Path.{ap, ap₂}
 use Rattle.std.proofs.Math.Seq.{drop_at}
-use Rattle.laws.specs.Run.{run, length_run, run_moved, run_cut}
-use Rattle.laws.specs.Fill.{Filled}
+use Rattle.laws.specs.Run.{run, length_run, get_or_run, run_moved, run_cut}
 use Rattle.laws.specs.Lanes.{Ran, ran_full}
-use Rattle.laws.specs.Loop.{by_run}
+use Rattle.laws.specs.Loop.{by}
+use Rattle.laws.specs.Blind.{map_run}
 use Rattle.carrier.specs.Formula.{carrier_l, carrier_m}
 use Rattle.carrier.proofs.Once.{carrier_once}
 use Rattle.carrier_turned.specs.Turned.{turned_l, turned_m, Within, TakenOff, off, ahead, behind}
@@ -109,24 +109,28 @@ module _ {d n s v cell : ℕ} (w : Within d n s v cell) {old : List ℕ} {count 
 
 -- M: what the walk wrote, and the pass over it
 module _ {d n s v cell : ℕ} (w : Within d n s v cell) {old mid : List ℕ} {count : ℕ} (r : Ran (carrier_m d n s) n cell old mid count) where
-  front : (y : ℕ) → y < count → get_or mid y 0 ≡ carrier_m d n s (cell + y)
-  front = by_run (carrier_m d n s) cell count mid (drop count old) r.list_is
+  front : take count mid ≡ run (carrier_m d n s) cell count
+  front = ap (take count) r.list_is ∙ take_at (run (carrier_m d n s) cell count) (drop count old) count (length_run (carrier_m d n s) cell count)
 
-  pub taken_off : TakenOff n v mid count
+  pub walk_fits : count ≤ length mid
+  walk_fits = omega (arith, ap length r.list_is, length-append (run (carrier_m d n s) cell count) (drop count old), length_run (carrier_m d n s) cell count)
+
+  pub taken_off : TakenOff n v (take count mid)
   taken_off = record {
     small = w.at.small;
     turn_in = w.turn_in;
-    room = omega (arith, ap length r.list_is, length-append (run (carrier_m d n s) cell count) (drop count old), length_run (carrier_m d n s) cell count);
-    below = λ y l. rw (front y l) ((carrier_once w.at.size).m_below (cell + y) (omega (arith, r.count_is)));
+    below = λ y l.
+        let h : y < count = omega (arith, length-take-le count mid walk_fits) in
+        rw (ap (λ (l : List ℕ). by l y) front ∙ get_or_run (carrier_m d n s) cell count y 0 h)
+        ((carrier_once w.at.size).m_below (cell + y) (omega (arith, r.count_is)));
   }
 
-  pub both_passes : {new : List ℕ} → Filled (off n v mid) 0 mid new count → Ran (turned_m d n s v) n cell old new count
+  pub both_passes : {part : List ℕ} → part ≡ map (off n v) (take count mid) → Ran (turned_m d n s v) n cell old (part ++ drop count mid) count
   unfolding turned_m
   both_passes f = record {
     count_is = r.count_is;
     list_is =
-        f.list
-        ∙ ap₂ ◌++◌
-        (run_moved (off n v mid) (turned_m d n s v) 0 cell count (λ y l. ap (off n v mid) (zero-add y) ∙ ap (λ (a : ℕ). (a + n - v) % n) (front y l)))
+        ap₂ ◌++◌
+        (f ∙ ap (map (off n v)) front ∙ map_run (off n v) (carrier_m d n s) cell count)
         (ap (drop count) r.list_is ∙ drop_at (run (carrier_m d n s) cell count) (drop count old) count (length_run (carrier_m d n s) cell count));
   }

@@ -1,10 +1,11 @@
 -- The walks of a spatial stream over how far it is turned: what they write on either side of the seam, and that the turn of its numbers makes them
 -- the walks of its rule. Rests on Third and Turned of crate carrier.
-use Rattle.std.specs.Prelude.{ℕ, ◌+◌, ◌-◌, ◌*◌, ◌%◌, ◌≤◌, ◌<◌, List, ◌≡◌, length, get_or}
+use Rattle.std.specs.Prelude.{ℕ, ◌+◌, ◌-◌, ◌*◌, ◌%◌, ◌≤◌, ◌<◌, List, ◌≡◌, length}
 use Rattle.std.proofs.Common.{sym, ◌∙◌, le_of_lt}
 use Rattle.std.proofs.Math.Path.{ap}
 use Rattle.std.proofs.Math.Nat.{mod-eq_of_lt, add-mod_right}
 use native.Mathlib.Omega.{arith}
+use Rattle.laws.specs.Loop.{by}
 use Rattle.laws.specs.Walk.{Rule}
 use Rattle.carrier.specs.Block.{Block, Whole, block}
 use Rattle.carrier.specs.Formula.{carrier_l, carrier_m}
@@ -30,35 +31,34 @@ abbrev pub turn_by : Stream → ℕ
 turn_by b = turn b.bits b.r b.stream
 
 abbrev pub rule_by : Stream → Rule
-rule_by b = spatial_rule b.d b.n b.s b.bits b.r b.stream
+rule_by b = spatial_rule b.steps.d b.steps.n b.steps.s b.bits b.r b.stream
 
 pub record Spatial (b : Stream) : Type 0 where
-  pub whole : Whole b.d b.n b.s
+  pub whole : Whole b.steps.d b.steps.n b.steps.s
   pub first : 1 ≤ b.stream
   pub last : b.stream ≤ 4
-  pub below : 3 * (b.r * b.bits) < b.n
+  pub below : 3 * (b.r * b.bits) < b.steps.n
 
 -- its turn is below N
-pub turn_in : {b : Stream} → Spatial b → turn_by b < b.n
-turn_in {b} h = turn_below b.n b.bits b.r b.stream h.first h.last h.below
+pub turn_in : {b : Stream} → Spatial b → turn_by b < b.steps.n
+turn_in {b} h = turn_below b.steps.n b.bits b.r b.stream h.first h.last h.below
 
--- the pass that takes the turn off: what it requires, and what stands at each place after it
-pub record TakenOff (n v : ℕ) (out : List ℕ) (count : ℕ) : Type 0 where
+-- the pass that takes the turn off: what it requires, and what it makes of an address
+pub record TakenOff (n v : ℕ) (out : List ℕ) : Type 0 where
   pub small : n < 65536
   pub turn_in : v < n
-  pub room : count ≤ length out
-  pub below : (y : ℕ) → y < count → get_or out y 0 < n
+  pub below : (y : ℕ) → y < length out → by out y < n
 
-abbrev pub off : ℕ → ℕ → List ℕ → ℕ → ℕ
-off n v out y = (get_or out y 0 + n - v) % n
+abbrev pub off : ℕ → ℕ → ℕ → ℕ
+off n v a = (a + n - v) % n
 
 -- one address: below the turn N is added, else the turn is taken off
-pub off_up : (n v a : ℕ) → v < n → a < v → a + (n - v) ≡ (a + n - v) % n
+pub off_up : (n v a : ℕ) → v < n → a < v → a + (n - v) ≡ off n v a
 off_up n v a h o =
     let e : a + n - v ≡ a + (n - v) = omega arith in
     sym (ap (λ (x : ℕ). x % n) e ∙ mod-eq_of_lt (let l : a + (n - v) < n = omega arith in l))
 
-pub off_down : (n v a : ℕ) → v < n → a < n → v ≤ a → a - v ≡ (a + n - v) % n
+pub off_down : (n v a : ℕ) → v < n → a < n → v ≤ a → a - v ≡ off n v a
 off_down n v a h l o =
     let e : a + n - v ≡ a - v + n = omega arith in
     sym (ap (λ (x : ℕ). x % n) e ∙ add-mod_right (a - v) n ∙ mod-eq_of_lt (let l : a - v < n = omega arith in l))
@@ -77,30 +77,30 @@ module _ (d n s v t : ℕ) (h : v < n) (l : t < n) where
 
 -- the block of a stream, by its turn
 module _ {b : Stream} (h : Spatial b) {v : ℕ} (e : v ≡ turn_by b) where
-  pub turn_lt : v < b.n
+  pub turn_lt : v < b.steps.n
   turn_lt = rw e (turn_in h)
 
-  pub within : {cell : ℕ} → cell ≤ b.n → Within b.d b.n b.s v cell
+  pub within : {cell : ℕ} → cell ≤ b.steps.n → Within b.steps.d b.steps.n b.steps.s v cell
   within l = record { at = block h.whole l; turn_in = turn_lt }
 
 -- what an address of the two steps requires
-pub block_at : {b : Stream} → Spatial b → {t : ℕ} → t < b.n → Block b.d b.n b.s t × (t < b.n)
+pub block_at : {b : Stream} → Spatial b → {t : ℕ} → t < b.steps.n → Block b.steps.d b.steps.n b.steps.s t × (t < b.steps.n)
 block_at h l = (block h.whole (le_of_lt l), l)
 
 -- its rule is the two steps', turned by it
 module _ (b : Stream) {v : ℕ} (e : v ≡ turn_by b) where
-  pub l_by : (t : ℕ) → turned_l b.d b.n b.s v t ≡ (rule_by b).l t
+  pub l_by : (t : ℕ) → turned_l b.steps.d b.steps.n b.steps.s v t ≡ (rule_by b).l t
   unfolding turned_l spatial_l third_back
-  l_by t = ap (λ (v : ℕ). carrier_l b.d b.n b.s ((t + v) % b.n)) e
+  l_by t = ap (λ (v : ℕ). carrier_l b.steps.d b.steps.n b.steps.s ((t + v) % b.steps.n)) e
 
-  pub m_by : (k : ℕ) → turned_m b.d b.n b.s v k ≡ (rule_by b).m k
+  pub m_by : (k : ℕ) → turned_m b.steps.d b.steps.n b.steps.s v k ≡ (rule_by b).m k
   unfolding turned_m spatial_m third_step
-  m_by k = ap (λ (v : ℕ). (carrier_m b.d b.n b.s k + b.n - v) % b.n) e
+  m_by k = ap (λ (v : ℕ). (carrier_m b.steps.d b.steps.n b.steps.s k + b.steps.n - v) % b.steps.n) e
 
 -- M of the two steps at a position, and the turn taken off it
-pub m_lt : {b : Stream} → Spatial b → {k a : ℕ} → k < b.n → a ≡ carrier_m b.d b.n b.s k → a < b.n
+pub m_lt : {b : Stream} → Spatial b → {k a : ℕ} → k < b.steps.n → a ≡ carrier_m b.steps.d b.steps.n b.steps.s k → a < b.steps.n
 m_lt h l e = rw e ((carrier_once h.whole.size).m_below _ l)
 
-pub off_of : (b : Stream) (k : ℕ) {a : ℕ} (v : ℕ) → a ≡ carrier_m b.d b.n b.s k → (a + b.n - v) % b.n ≡ turned_m b.d b.n b.s v k
+pub off_of : (b : Stream) (k : ℕ) {a : ℕ} (v : ℕ) → a ≡ carrier_m b.steps.d b.steps.n b.steps.s k → off b.steps.n v a ≡ turned_m b.steps.d b.steps.n b.steps.s v k
 unfolding turned_m
-off_of b k v e = ap (λ (a : ℕ). (a + b.n - v) % b.n) e
+off_of b k v e = ap (off b.steps.n v) e

@@ -3,7 +3,7 @@ use super::{looks, words};
 use kinds::Stream;
 use kinds::sizes::Sizes;
 use laws::Way;
-use streams::{Answer, Said};
+use streams::Answer;
 use system::System;
 
 // The record after a start and a feed of the input. (A refused start gives one of kind 0, which every feed refuses.)
@@ -24,16 +24,17 @@ fn tell_kind(system: System, kind: u32) {
 
 // What a feed from record s says.
 fn tell_next(system: System, got: Answer, s: Stream) {
-    let said = got.said;
     let next = got.stream;
-    match said {
-        Said::Refused(k) => words::number(system, b": refused ", k as u64),
-        Said::Done => {
-            let before = s.places;
-            let after = next.places;
+    match got.said {
+        Err(k) => words::number(system, b": refused ", k as u64),
+        Ok(()) => {
             words::number(system, b": done, branch ", s.branch as u64);
             words::number(system, b" moved to ", next.branch as u64);
-            words::number(system, b", places moved ", looks::moved(&before, &after));
+            words::number(
+                system,
+                b", places moved ",
+                looks::differing(&s.places, &next.places),
+            );
         }
     }
 }

@@ -2,7 +2,7 @@
 // begins at channel byte `at`, counted from the start of the machine; its bytes are counted from 0. An unknown kind is taken for ATSC.
 #![tactic(auto)]
 
-ghost use Rattle.std.specs.Prelude.{◌≡◌, ◌+◌, ◌-◌, ◌≤◌, ◌<◌, min};
+ghost use Rattle.std.specs.Prelude.{◌≡◌, ◌+◌, ◌-◌, ◌≤◌, ◌<◌};
 ghost use Rattle.kinds.specs.Kinds.{place_in};
 ghost use Rattle.channel.specs.Nearest.{delay_of, apart, nearest_before, nearest_of};
 
@@ -32,13 +32,7 @@ fn distance(kind: u32, at: u32, i: u32, k: u32) -> u64
 {
     let u = place(kind, at, i);
     let v = place(kind, at, k);
-    if u < v { v - u } else { u - v }
-}
-
-fn smaller(a: u64, b: u64) -> u64
-    ensures { result ≡ min a b }
-{
-    if b < a { b } else { a }
+    u.abs_diff(v)
 }
 
 // The least distance of byte k from those before it.
@@ -47,10 +41,8 @@ fn from_earlier(kind: u32, at: u32, k: u32) -> u64
     ensures { result ≡ nearest_before kind at (k - 1) }
 {
     let mut d = distance(kind, at, 0, k);
-    let mut i = 1;
-    while i < k {
-        d = smaller(d, distance(kind, at, i, k));
-        i += 1;
+    for i in 1..k {
+        d = d.min(distance(kind, at, i, k));
     }
     d
 }
@@ -60,10 +52,8 @@ pub fn nearest(kind: u32, at: u32, n: u32) -> u64
     ensures { result ≡ nearest_of kind at n }
 {
     let mut d = from_earlier(kind, at, 1);
-    let mut k = 2;
-    while k < n {
-        d = smaller(d, from_earlier(kind, at, k));
-        k += 1;
+    for k in 2..n {
+        d = d.min(from_earlier(kind, at, k));
     }
     d
 }

@@ -100,11 +100,9 @@ fn write_rest(couples: Couples, start: Spot, out: &mut [u16], from: usize, count
         → Walking couples cell count old out.new result count }
 {
     let mut at = start;
-    let mut i = from;
-    while i < count {
+    for i in from..count {
         out[i] = at.value as u16;
         at = at.next(couples);
-        i += 1;
     }
     at
 }
@@ -117,13 +115,11 @@ fn write(couples: Couples, cell: usize, out: &mut [u16]) -> usize
     let count = least(out.len(), couples.n as usize - cell);
     let mut at = Spot::new(couples, cell);
     let mut i = 0;
-    let mut fours = count / 4;
-    while fours > 0 {
+    'fours: for _ in 0..count / 4 {
         at = write_two(couples, at, out, i);
         i += 2;
         at = write_two(couples, at, out, i);
         i += 2;
-        fours -= 1;
     }
     write_rest(couples, at, out, i, count);
     count
@@ -158,13 +154,12 @@ pub fn place_of(couples: Couples, a: usize) -> usize
     ensures { result ≡ couple_m couples a }
 {
     let mut at = Spot::new(couples, 0);
-    let mut j = 0;
-    while j < couples.n as usize {
+    let n = couples.n as usize;
+    for j in 0..n {
         if at.value == a {
             return j;
         }
         at = at.next(couples);
-        j += 1;
     }
-    j
+    n
 }

@@ -15,9 +15,7 @@ pub fn spread(n: usize, table: &mut [u16])
     requires { OfCouples n table.old }
     ensures { Spread n table.old table.new }
 {
-    let mut j = n;
-    while j > 0 {
-        j -= 1;
+    for j in (0..n).rev() {
         let c = table[j] as usize;
         let odd = parity(c);
         let even = 1 - odd;

@@ -1,6 +1,6 @@
 // A shore gateway: up to eight byte machines in one lent store. Vessels are counted from 0.
 ghost use Rattle.std.specs.Prelude.{◌≡◌, ℕ};
-ghost use Rattle.gateway.specs.Placed.{Stretch};
+ghost use Rattle.gateway.specs.declared.Stretch.{Stretch};
 ghost use Rattle.gateway.specs.Answers.{length_of, laid_of, laid_store, placed_of, feed, says, store_after, output_after};
 ghost use Rattle.flat.specs.Flat.{stream_number_of, out_of};
 

@@ -9,10 +9,9 @@ ghost use Rattle.laws.specs.Outcome.{say};
 ghost use Rattle.walks.specs.declared.Values.{Values};
 ghost use Rattle.flat.specs.Flat.{set_of, walk_of, number_by, number_of, out_of, factors_list, figures_list, totals_list};
 
-use lte::Given;
 use sets::{Factors, Refusal, Set};
 use walks::{Found, Walk, Walked};
-use wcdma_report::{Reported, Summed};
+use wcdma_report::{Figures, Totals};
 
 // How many numbers a set is.
 pub const SET: usize = 8;
@@ -55,7 +54,7 @@ pub fn number<T: Copy>(answer: Result<T, Refusal>) -> u32
 }
 
 // Takes the answer of the standard's factors apart.
-pub fn given(g: Given, factors: &mut [u32; FACTORS]) -> u32
+pub fn given(g: Result<Factors, Refusal>, factors: &mut [u32; FACTORS]) -> u32
     ensures number { result ≡ number_of (say g) }
     ensures factors { factors.new ≡ out_of (say g) factors_list factors.old }
 {
@@ -66,7 +65,7 @@ pub fn given(g: Given, factors: &mut [u32; FACTORS]) -> u32
 }
 
 // Takes the figures of one K apart.
-pub fn reported(r: Reported, figures: &mut [u32; FIGURES]) -> u32
+pub fn reported(r: Result<Figures, Refusal>, figures: &mut [u32; FIGURES]) -> u32
     ensures number { result ≡ number_of (say r) }
     ensures figures { figures.new ≡ out_of (say r) figures_list figures.old }
 {
@@ -77,7 +76,7 @@ pub fn reported(r: Reported, figures: &mut [u32; FIGURES]) -> u32
 }
 
 // Takes the totals of a range apart. A range has no set, so a refusal of it is its number.
-pub fn summed(s: Summed, totals: &mut [u32; TOTALS]) -> u32
+pub fn summed(s: Result<Totals, u32>, totals: &mut [u32; TOTALS]) -> u32
     ensures number { result ≡ number_by (λ (k : ℕ). k) (say s) }
     ensures totals { totals.new ≡ out_of (say s) totals_list totals.old }
 {

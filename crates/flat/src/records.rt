@@ -4,7 +4,7 @@ ghost use Rattle.streams.specs.Answers.{say};
 ghost use Rattle.flat.specs.Flat.{stream_of, stream_list, stream_number_of, stream_out};
 
 use kinds::Stream;
-use streams::{Answer, Said};
+use streams::Answer;
 
 // How many numbers a record is: kind, branch, and the places.
 pub const STREAM: usize = 53;
@@ -50,10 +50,10 @@ pub fn answered(a: Answer, stream: &mut [u32; STREAM]) -> u32
     let said = a.said;
     let s = a.stream;
     match said {
-        Said::Done => {
+        Ok(()) => {
             *stream = numbers_of(s);
             0
         }
-        Said::Refused(k) => k,
+        Err(k) => k,
     }
 }

@@ -3,19 +3,12 @@
 use Rattle.std.specs.Prelude.{ℕ, ◌+◌, not, List, [], ◌∷◌, eqb, ltb, length}
 use Rattle.std.proofs.lemmas.List.Edits.{sets}
 use Rattle.laws.specs.declared.Way.{Way}
-use Rattle.laws.specs.Outcome.{Outcome, done, refused, Line, line, judged, after}
+use Rattle.laws.specs.Outcome.{Outcome, Line, line, judged, after}
 use Rattle.kinds.specs.declared.Stream.{Stream}
-use Rattle.streams.specs.declared.Said.{Said}
-use Rattle.streams.specs.declared.Said.TheVariants.{Done, Refused}
 use Rattle.streams.specs.Fed.{fed_output, fed_store, fed_record}
 use Rattle.gateway_form.specs.Form.{record_of, way_of, stand_bytes, machines_in, entry_place, entry_in, offset_in, length_in, share_in, form_line}
 use Rattle.gateway_laying.specs.Laid.{store_length, laid_out, count_line, equal_line, kind_line, direction_line}
-use Rattle.gateway.specs.Placed.{Stretch}
-
--- done, or a number
-abbrev pub say_done : Said → Outcome ℕ (Unit {0})
-say_done Done = done tt
-say_done (Refused k) = refused k
+use Rattle.gateway.specs.declared.Stretch.{Stretch}
 
 -- ---- the form, and a vessel's share
 

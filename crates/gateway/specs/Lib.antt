@@ -1,4 +1,3 @@
-pub mod Placed
 pub mod Answers
 pub mod Turning
 pub mod Telling

@@ -8,7 +8,7 @@ use Rattle.gateway_form.specs.Form.{machines_in, offset_in, length_in, share_in,
 use Rattle.gateway_form.specs.Gateways.{formed_exactly, share_inside}
 use Rattle.gateway_laying.specs.Laid.{laid_out}
 use Rattle.gateway.specs.Answers.{vessel_lines, stretch_in, placed_of, share_of, lay_lines, laid_of, laid_store}
-use Rattle.gateway.specs.Placed.{Stretch}
+use Rattle.gateway.specs.declared.Stretch.{Stretch}
 use Rattle.gateway.specs.Turning.{the_share}
 
 -- ---- a share

@@ -5,45 +5,45 @@
 pub mod laying; // laying.rt: a store laid out
 
 ghost use Rattle.std.specs.Prelude.{◌≡◌, true, ◌<◌, length};
+ghost use Rattle.laws.specs.Outcome.{say};
 ghost use Rattle.gateway_form.specs.Form.{machines_in, formed};
-ghost use Rattle.gateway.specs.Answers.{say_done, formed_of, placed_of, share_of, feed, says, store_after, output_after, turned, passed};
-ghost use Rattle.gateway.specs.Placed.{say_place};
+ghost use Rattle.gateway.specs.Answers.{formed_of, placed_of, share_of, feed, says, store_after, output_after, turned, passed};
 
 use gateway_form::ENTRY;
 use streams::Said;
 
-// Where a vessel's share stands in the store, or why there is none.
+// Where a vessel's share stands in the store: where it begins, and how many bytes it has.
 #[derive(Clone, Copy)]
-pub enum Place {
-    At { offset: u32, length: u32 },
-    Refused(u32),
+pub struct Stretch {
+    pub offset: u32,
+    pub long: u32,
 }
 
 // Tests the form of a store. Refusal 9.
 pub fn form(store: &[u8]) -> Said
-    ensures { say_done result ≡ formed_of store.now }
+    ensures { say result ≡ formed_of store.now }
 {
     if !gateway_form::well_formed(store) {
-        return Said::Refused(9);
+        return Err(9);
     }
-    Said::Done
+    Ok(())
 }
 
 // Where a vessel's share stands. Refusals 9, 4.
-pub fn place_of(store: &[u8], vessel: u32) -> Place
-    ensures { say_place result ≡ placed_of store.now vessel }
+pub fn place_of(store: &[u8], vessel: u32) -> Result<Stretch, u32>
+    ensures { say result ≡ placed_of store.now vessel }
 {
     if !gateway_form::well_formed(store) {
-        return Place::Refused(9);
+        return Err(9);
     }
     let v = vessel as usize;
     if v >= gateway_form::machines_in(store) {
-        return Place::Refused(4);
+        return Err(4);
     }
     let entry = gateway_form::entry_at(store, 4 + ENTRY * v);
     let offset = gateway_form::offset_of(entry) as u32;
-    let length = gateway_form::length_of(entry) as u32;
-    Place::At { offset, length }
+    let long = gateway_form::length_of(entry) as u32;
+    Ok(Stretch { offset, long })
 }
 
 // A vessel's share: that part of the store, and where `place_of` gives a number an empty one.
@@ -51,10 +51,10 @@ pub fn share(store: &[u8], vessel: u32) -> &[u8]
     ensures { result.now ≡ share_of store.now vessel }
 {
     match place_of(store, vessel) {
-        Place::Refused(_) => &store[0..0],
-        Place::At { offset, length } => {
-            let from = offset as usize;
-            let end = from + length as usize;
+        Err(_) => &store[0..0],
+        Ok(place) => {
+            let from = place.offset as usize;
+            let end = from + place.long as usize;
             &store[from..end]
         }
     }
@@ -78,21 +78,21 @@ fn turn(store: &mut [u8], v: usize, input: &[u8], out: &mut [u8])
 
 // Feeds the machine of a vessel. Refusals 9, 4, 6.
 pub fn feed(store: &mut [u8], vessel: u32, input: &[u8], out: &mut [u8]) -> Said
-    ensures answer { say_done result ≡ says (feed store.old vessel input.now out.old) }
+    ensures answer { say result ≡ says (feed store.old vessel input.now out.old) }
     ensures store { store.new ≡ store_after (feed store.old vessel input.now out.old) }
     ensures output { out.new
         ≡ output_after (feed store.old vessel input.now out.old) }
 {
     if !gateway_form::well_formed(store) {
-        return Said::Refused(9);
+        return Err(9);
     }
     let v = vessel as usize;
     if v >= gateway_form::machines_in(store) {
-        return Said::Refused(4);
+        return Err(4);
     }
     if out.len() != input.len() {
-        return Said::Refused(6);
+        return Err(6);
     }
     turn(store, v, input, out);
-    Said::Done
+    Ok(())
 }

@@ -14,11 +14,9 @@ pub fn put_stand(store: &mut [u8], at: usize, s: Stream)
     big_end::put_number(store, at, s.branch);
     let places = s.places;
     let mut next = at + 4;
-    let mut x = 0;
-    while x < Stream::RINGS {
-        big_end::put_number(store, next, places[x]);
+    for place in places {
+        big_end::put_number(store, next, place);
         next += 4;
-        x += 1;
     }
 }
 

@@ -84,11 +84,9 @@ pub fn record_of(entry: &[u8]) -> Stream
 {
     let mut places = [0u32; Stream::RINGS];
     let mut at = 20;
-    let mut x = 0;
-    while x < Stream::RINGS {
-        places[x] = big_end::number_at(entry, at);
+    for place in places.iter_mut() {
+        *place = big_end::number_at(entry, at);
         at += 4;
-        x += 1;
     }
     Stream {
         kind: big_end::number_at(entry, 0),
@@ -131,8 +129,7 @@ fn entries_fit(store: &[u8], machines: usize) -> bool
     let atsc = limits_of(Stream::ATSC);
     let mut share = 4 + ENTRY * machines;
     let mut at = 4;
-    let mut i = 0;
-    while i < machines {
+    for _ in 0..machines {
         let entry = entry_at(store, at);
         if !entry_fits(entry, &dvb, &atsc) {
             return false;
@@ -142,7 +139,6 @@ fn entries_fit(store: &[u8], machines: usize) -> bool
         }
         share += length_of(entry);
         at += ENTRY;
-        i += 1;
     }
     share == store.len()
 }

@@ -19,12 +19,10 @@ pub fn limits_of(kind: u32) -> [u8; PLACES]
     let mut limits = [1u8; PLACES];
     let mut limit = 0;
     let mut at = 3;
-    let mut x = 0;
-    while x < rings {
+    for _ in 0..rings {
         limit += step;
         limits[at] = limit;
         at += 4;
-        x += 1;
     }
     limits
 }
@@ -35,12 +33,10 @@ pub fn bytes_below(bytes: &[u8], limits: &[u8; PLACES]) -> bool
     ensures { result ≡ bytes_below bytes.now limits.now }
 {
     let mut ok = true;
-    let mut i = 0;
-    while i < PLACES {
+    for i in 0..PLACES {
         if bytes[i] >= limits[i] {
             ok = false;
         }
-        i += 1;
     }
     ok
 }

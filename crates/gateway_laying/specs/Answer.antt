@@ -1,15 +1,8 @@
--- What a length says, and what laying out asks: a list of known kinds, 8 at most, another as long, and a store of their length. These are definitions.
+-- What laying out asks: a list of known kinds, 8 at most, another as long, and a store of their length. These are definitions.
 use Rattle.std.specs.Prelude.{ℕ, ◌≤◌, true, List, ◌≡◌, length}
 use Rattle.laws.specs.Members.{every}
-use Rattle.laws.specs.Outcome.{Outcome, done, refused}
 use Rattle.kinds.specs.Kinds.{known}
-use Rattle.gateway_laying.specs.declared.Length.{Length}
-use Rattle.gateway_laying.specs.declared.Length.TheVariants.{Bytes, Refused}
 use Rattle.gateway_laying.specs.Laid.{store_length}
-
-abbrev pub say_length : Length → Outcome ℕ ℕ
-say_length (Bytes n) = done n
-say_length (Refused k) = refused k
 
 pub record Lists (kinds : List ℕ) (long room : ℕ) : Type 0 where
   pub few : length kinds ≤ 8

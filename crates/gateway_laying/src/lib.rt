@@ -4,52 +4,43 @@
 ghost use Rattle.std.specs.Prelude.{◌≡◌, ◌≤◌, [], ◌∷◌, length, ℕ};
 ghost use Rattle.std.proofs.lemmas.List.Edits.{sets};
 ghost use Rattle.laws.specs.Members.{chained, every};
-ghost use Rattle.laws.specs.Outcome.{judged};
+ghost use Rattle.laws.specs.Outcome.{say, judged};
 ghost use Rattle.gateway_form.specs.Form.{directed, entry_place};
 ghost use Rattle.gateway_laying.specs.Laid.{store_length, laid_entry, laid_share, vessels, laid_out, kind_line};
-ghost use Rattle.gateway_laying.specs.Answer.{say_length, Lists};
+ghost use Rattle.gateway_laying.specs.Answer.{Lists};
 
 use gateway_form::entries::put_entry;
 use gateway_form::{ENTRY, is_direction};
 use kinds::Stream;
 use kinds::sizes::Sizes;
 
-// How many bytes a store has, or why there is none.
-#[derive(Clone, Copy)]
-pub enum Length {
-    Bytes(u32),
-    Refused(u32),
-}
+// How many bytes a store has, or the number of why there is none.
+pub type Length = Result<u32, u32>;
 
 // Tests kinds in their order, and adds up the length of their store.
 pub fn measure(kinds: &[u32]) -> Length
     requires { length kinds.now ≤ 8 }
-    ensures { say_length result ≡ judged (λ (n : ℕ). n) (kind_line kinds.now ∷ []) (store_length kinds.now) }
+    ensures { say result ≡ judged (λ (n : ℕ). n) (kind_line kinds.now ∷ []) (store_length kinds.now) }
 {
     let mut bytes = 4 + ENTRY * kinds.len();
-    let mut i = 0;
-    while i < kinds.len() {
-        let kind = kinds[i];
+    for &kind in kinds {
         if !Sizes::known(kind) {
-            return Length::Refused(9);
+            return Err(9);
         }
         bytes += Sizes::of(kind).store;
-        i += 1;
     }
     let long = bytes as u32;
-    Length::Bytes(long)
+    Ok(long)
 }
 
 // Whether every direction is 1 or 2.
 pub fn all_directed(directions: &[u32]) -> bool
     ensures { result ≡ every directed directions.now }
 {
-    let mut i = 0;
-    while i < directions.len() {
-        if !is_direction(directions[i]) {
+    for &direction in directions {
+        if !is_direction(direction) {
             return false;
         }
-        i += 1;
     }
     true
 }
@@ -62,13 +53,10 @@ fn put_entries(store: &mut [u8], kinds: &[u32], directions: &[u32])
 {
     let mut share = 4 + ENTRY * kinds.len();
     let mut at = 4;
-    let mut i = 0;
-    while i < kinds.len() {
-        let kind = kinds[i];
+    for (i, &kind) in kinds.iter().enumerate() {
         put_entry(store, at, directions[i], share as u32, Stream::new(kind));
         share += Sizes::of(kind).store;
         at += ENTRY;
-        i += 1;
     }
 }
 
@@ -80,13 +68,10 @@ fn put_shares(store: &mut [u8], kinds: &[u32], fills: &[u8])
         (chained (laid_share kinds.now fills.now) (vessels kinds.now)) }
 {
     let mut at = 4 + ENTRY * kinds.len();
-    let mut i = 0;
-    while i < kinds.len() {
-        let kind = kinds[i];
+    for (i, &kind) in kinds.iter().enumerate() {
         let end = at + Sizes::of(kind).store;
         streams::start(kind, &mut store[at..end], fills[i]);
         at = end;
-        i += 1;
     }
 }
 

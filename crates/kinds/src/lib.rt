@@ -104,13 +104,11 @@ fn below(places: &[u32], from: usize, to: usize, limit: u32, step: u32) -> bool
 {
     let mut ok = true;
     let mut most = limit;
-    let mut i = from;
-    while i < to {
+    for i in from..to {
         if places[i] >= most {
             ok = false;
         }
         most += step;
-        i += 1;
     }
     ok
 }

@@ -2,55 +2,52 @@
 #![tactic(auto)]
 
 ghost use Rattle.std.specs.Prelude.{◌≡◌, ℕ};
-ghost use Rattle.gateway_laying.specs.Answer.{say_length};
-ghost use Rattle.gateway.specs.Placed.{Stretch, say_place};
-ghost use Rattle.gateway.specs.Answers.{say_done, length_of, laid_of, laid_store, placed_of, feed, says, store_after, output_after};
+ghost use Rattle.laws.specs.Outcome.{say};
+ghost use Rattle.gateway.specs.declared.Stretch.{Stretch};
+ghost use Rattle.gateway.specs.Answers.{length_of, laid_of, laid_store, placed_of, feed, says, store_after, output_after};
 ghost use Rattle.flat.specs.Flat.{stream_number_of, out_of};
 
-use gateway::Place;
+use gateway::Stretch;
 use gateway_laying::Length;
 use streams::Said;
 
 // The number of what a call says.
 fn told(s: Said) -> u32
-    ensures { result ≡ stream_number_of (say_done s) }
+    ensures { result ≡ stream_number_of (say s) }
 {
     match s {
-        Said::Done => 0,
-        Said::Refused(k) => k,
+        Ok(()) => 0,
+        Err(k) => k,
     }
 }
 
 // Takes a store's length apart.
 fn measured(l: Length, bytes: &mut u32) -> u32
-    ensures number { result ≡ stream_number_of (say_length l) }
-    ensures bytes { bytes.new ≡ out_of (say_length l) (λ (n : ℕ). n) bytes.old }
+    ensures number { result ≡ stream_number_of (say l) }
+    ensures bytes { bytes.new ≡ out_of (say l) (λ (n : ℕ). n) bytes.old }
 {
     match l {
-        Length::Bytes(n) => {
+        Ok(n) => {
             *bytes = n;
             0
         }
-        Length::Refused(k) => k,
+        Err(k) => k,
     }
 }
 
 // Takes a share's place apart.
-fn placed(p: Place, offset: &mut u32, length: &mut u32) -> u32
-    ensures number { result ≡ stream_number_of (say_place p) }
-    ensures offset { offset.new ≡ out_of (say_place p) (λ (s : Stretch). s.offset) offset.old }
-    ensures length { length.new ≡ out_of (say_place p) (λ (s : Stretch). s.long) length.old }
+fn placed(p: Result<Stretch, u32>, offset: &mut u32, length: &mut u32) -> u32
+    ensures number { result ≡ stream_number_of (say p) }
+    ensures offset { offset.new ≡ out_of (say p) (λ (s : Stretch). s.offset) offset.old }
+    ensures length { length.new ≡ out_of (say p) (λ (s : Stretch). s.long) length.old }
 {
     match p {
-        Place::At {
-            offset: from,
-            length: long,
-        } => {
-            *offset = from;
-            *length = long;
+        Ok(place) => {
+            *offset = place.offset;
+            *length = place.long;
             0
         }
-        Place::Refused(k) => k,
+        Err(k) => k,
     }
 }
 

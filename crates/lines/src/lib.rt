@@ -66,12 +66,9 @@ pub fn append(room: &mut [u8; ROOM], from: usize, s: &[u8]) -> usize
     at
 }
 
-// The first n bytes, or all where there are fewer.
-pub fn first(s: &[u8], n: usize) -> &[u8]
+// The first n of some values, or all where there are fewer.
+pub fn first<T>(s: &[T], n: usize) -> &[T]
     ensures { result.now ≡ take n s.now }
 {
-    if n <= s.len() {
-        return &s[..n];
-    }
-    s
+    &s[..n.min(s.len())]
 }

@@ -1,58 +1,39 @@
 // Decimal numbers of one to ten digits.
 #![tactic(auto)]
 
-ghost use Rattle.std.specs.Prelude.{◌≡◌, ◌≤◌};
-ghost use Rattle.numbers.specs.Decimal.{digit_of, read_from, said_by};
+ghost use Rattle.std.specs.Prelude.{◌≡◌};
+ghost use Rattle.numbers.specs.Decimal.{digit_in, read_from, said_by};
 
-// What a word says.
-#[derive(Clone, Copy)]
-pub enum Number {
-    Value(u32),
-    Wrong,
-}
-
-// What a byte says as a digit, or 10.
-fn digit(b: u8) -> u64
-    ensures { (result ≡ digit_of b) × (result ≤ 10) }
+// The digit that a byte says.
+#[tactic(auto, using(std::proofs::lemmas::Bool::Decides::nat_tests), unfolding(crate::specs::Decimal::digit_of))]
+fn digit(b: u8) -> Option<u32>
+    ensures { result ≡ digit_in b }
 {
-    if b < b'0' {
-        return 10;
+    match b {
+        b'0'..=b'9' => Some(u32::from(b - b'0')),
+        _ => None,
     }
-    if b > b'9' {
-        return 10;
-    }
-    (b - b'0') as u64
 }
 
-#[tactic(auto, using(crate::specs::Decimal::reads_wrong))]
-fn digits(s: &[u8]) -> Number
+#[tactic(auto, using(crate::specs::Decimal::read_end, crate::specs::Decimal::read_wrong, crate::specs::Decimal::read_large))]
+fn digits(s: &[u8]) -> Option<u32>
     ensures { result ≡ read_from 0 s.now }
 {
-    let mut v: u64 = 0;
-    let mut i = 0;
-    while i < s.len() {
-        let d = digit(s[i]);
-        if d > 9 {
-            return Number::Wrong;
-        }
-        v = v * 10 + d;
-        if v > 4294967295 {
-            return Number::Wrong;
-        }
-        i += 1;
+    let mut v: u32 = 0;
+    for b in s {
+        let d = digit(*b)?;
+        v = v.checked_mul(10)?.checked_add(d)?;
     }
-    Number::Value(v as u32)
+    Some(v)
 }
 
 // The number that a word says: one to ten decimal digits and nothing else, at most 4,294,967,295.
-pub fn read(s: &[u8]) -> Number
+#[tactic(auto, using(std::proofs::lemmas::Bool::Decides::nat_tests), unfolding(crate::specs::Decimal::said_by))]
+pub fn read(s: &[u8]) -> Option<u32>
     ensures { result ≡ said_by s.now }
 {
-    if s.len() == 0 {
-        return Number::Wrong;
+    match s.len() {
+        1..=10 => digits(s),
+        _ => None,
     }
-    if s.len() > 10 {
-        return Number::Wrong;
-    }
-    digits(s)
 }

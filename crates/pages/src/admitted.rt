@@ -1,7 +1,7 @@
 // What each profile admits, as a table. The sizes are those that the test of a set lets past 3, each size up to the longest list being tried, and the
 // streams those that it goes by, so the table cannot say anything else than the library does.
 use super::{say, say_number};
-use sets::{Set, Verdict};
+use sets::Set;
 use system::System;
 
 // Sizes that follow each other by one step.
@@ -13,24 +13,21 @@ struct Row {
     count: u32,
 }
 
-// The number of the refusal of a set, or 0.
-fn verdict(profile: u32, bits: u32, n: u32) -> u32 {
-    match sets::test(Set {
+// The number of the refusal of a set, if it is refused.
+fn refusal(profile: u32, bits: u32, n: u32) -> Option<u32> {
+    let set = Set {
         profile,
         bits,
         n,
         stream: 1,
         factors: sets::NO_FACTORS,
-    }) {
-        Verdict::Refused(x) => x.number,
-        Verdict::Accepted => 0,
-    }
+    };
+    sets::test(set).err().map(|x| x.number)
 }
 
 // Whether N is listed: 1, 2 and 3 are not said. (With zeros for factors, 11 is said of a size of LTE, 10 of one of couples, and no other number.)
 fn is_listed(profile: u32, bits: u32, n: u32) -> bool {
-    let v = verdict(profile, bits, n);
-    (v == 0) | (v > 3)
+    !matches!(refusal(profile, bits, n), Some(1..=3))
 }
 
 impl Row {
@@ -85,24 +82,22 @@ impl Row {
 
 fn sizes(system: System, profile: u32, bits: u32) {
     let mut row = Row::none();
-    let mut n = 1;
-    while n <= 6144 {
+    for n in 1..=6144 {
         if is_listed(profile, bits, n) {
             row = row.with(system, n);
         }
-        n += 1;
     }
     row.show(system);
 }
 
 // What stands behind the sizes: the factors, where the profile reads any. Zeros are refused with 11 by LTE, and with 10 by couples.
 fn factors(system: System, profile: u32, bits: u32) {
-    match verdict(profile, bits, 40) {
-        11 => say(
+    match refusal(profile, bits, 40) {
+        Some(11) => say(
             system,
             b"; with f1 and f2 from 1 to N - 1 that give no two positions one address\n",
         ),
-        10 => say(
+        Some(10) => say(
             system,
             b"; with P0 to P3 from 0 to N - 1 that give no two outputs one couple; N couples are 2N symbols\n",
         ),
@@ -158,15 +153,13 @@ fn name(system: System, profile: u32) {
 // The lines of a profile.
 fn profile(system: System, p: u32) {
     let mut first = true;
-    let mut bits = 1;
-    while bits <= 8 {
-        if verdict(p, bits, 0) > 2 {
+    for bits in 1..=8 {
+        if matches!(refusal(p, bits, 0), Some(k) if k > 2) {
             front(system, p, bits, first);
             sizes(system, p, bits);
             factors(system, p, bits);
             first = false;
         }
-        bits += 1;
     }
 }
 
@@ -176,11 +169,9 @@ pub fn table(system: System) {
         system,
         b"profile  standard                     bits  streams  N\n",
     );
-    let mut p = 1;
-    while p <= 10 {
-        if verdict(p, 0, 0) > 1 {
+    for p in 1..=10 {
+        if matches!(refusal(p, 0, 0), Some(k) if k > 1) {
             profile(system, p);
         }
-        p += 1;
     }
 }

@@ -10,10 +10,6 @@ use system::{STDOUT_FILENO, System};
 // No list is longer.
 const LONGEST: usize = 6144;
 
-fn wide(x: u16) -> u64 {
-    x as u64
-}
-
 fn say(system: System, words: &[u8]) {
     words::text::write(system, STDOUT_FILENO, words);
 }

@@ -2,34 +2,23 @@
 // symbol, so it has no dot.
 ghost use Rattle.std.specs.Prelude.{◌≤◌};
 
-use super::{LONGEST, lists, say, say_number, wide};
+use super::{LONGEST, lists, say, say_number};
 use sets::{Factors, Set};
 use system::{STDOUT_FILENO, System};
-use walks::{Walk, Walked};
-use words::text::{put, put_number};
-
-fn limited(n: u32) -> u64
-    ensures { result ≤ 6144 }
-{
-    if n <= 6144 { n as u64 } else { 6144 }
-}
+use walks::Walk;
+use words::text::Text;
 
 // A dot for each output t: M L(t) t h0, a stroke of no length with round ends.
 fn dots(system: System, slots: &[u16], n: u32) {
-    let mut room = [0u8; 4096];
-    let mut at = 0;
-    let mut i = 0;
-    while i < slots.len() {
-        if i < n as usize {
-            at = put(system, &mut room, at, b"M");
-            at = put_number(system, &mut room, at, wide(slots[i]));
-            at = put(system, &mut room, at, b" ");
-            at = put_number(system, &mut room, at, i as u64);
-            at = put(system, &mut room, at, b"h0");
-        }
-        i += 1;
+    let mut text = Text::new(system);
+    for (t, slot) in slots.iter().take(n as usize).enumerate() {
+        text.put(b"M");
+        text.put_number(u64::from(*slot));
+        text.put(b" ");
+        text.put_number(t as u64);
+        text.put(b"h0");
     }
-    words::text::flush(system, &room, at);
+    text.flush();
 }
 
 fn four(system: System, p: Factors) {
@@ -134,17 +123,12 @@ fn head(system: System, set: Set, n: u64)
 // `picture`.
 pub fn picture(system: System, set: Set) {
     let mut table = [0u16; LONGEST];
-    let w = walks::walk_l(Walk { set, cell: 0 }, &mut table);
-    match w {
-        Walked::Refused(x) => lists::refused(system, STDOUT_FILENO, x),
-        Walked::Done {
-            written,
-            next: _,
-            cells: _,
-        } => {
-            head(system, set, limited(written));
-            dots(system, &table, written);
+    match walks::walk_l(Walk { set, cell: 0 }, &mut table) {
+        Ok(values) => {
+            head(system, set, u64::from(values.written).min(6144));
+            dots(system, &table, values.written);
             say(system, b"\"/>\n</svg>\n");
         }
+        Err(x) => lists::refused(system, STDOUT_FILENO, x),
     }
 }

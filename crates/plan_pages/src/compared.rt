@@ -1,11 +1,9 @@
 // `differ`: a line for each difference of two files, in file order, and then how many there are.
 use super::{ROOM, read, refused};
 use plan_differ::Difference;
-use plan_form::Place;
 use plans::differing::Differed;
 use system::System;
-use words::text;
-use words::text::{put, put_number};
+use words::text::Text;
 
 // Where the next difference is looked for: a plan, counted from 1, and a position of it.
 #[derive(Clone, Copy)]
@@ -14,19 +12,15 @@ struct From {
     position: u32,
 }
 
-fn after(x: u32) -> u32 {
-    if x < u32::MAX { x + 1 } else { x }
-}
-
 // Behind a difference: the next plan behind one of a whole plan, else the next position.
 fn behind(d: Difference) -> From {
     match d {
         Difference::Missing(plan) => From {
-            plan: after(plan),
+            plan: plan.saturating_add(1),
             position: 0,
         },
         Difference::Header(plan) => From {
-            plan: after(plan),
+            plan: plan.saturating_add(1),
             position: 0,
         },
         Difference::At {
@@ -36,107 +30,73 @@ fn behind(d: Difference) -> From {
             right: _,
         } => From {
             plan,
-            position: after(position),
+            position: position.saturating_add(1),
         },
     }
 }
 
-fn put_place(system: System, room: &mut [u8; text::ROOM], from: usize, p: Place) -> usize {
-    let at = put(system, room, from, b" ");
-    match p {
-        Place::Absent => put(system, room, at, b"-"),
-        Place::Address(a) => put_number(system, room, at, a as u64),
+fn put_place(text: &mut Text, place: Option<u32>) {
+    text.put(b" ");
+    match place {
+        Some(a) => text.put_number(a as u64),
+        None => text.put(b"-"),
     }
 }
 
-fn put_plan(
-    system: System,
-    room: &mut [u8; text::ROOM],
-    from: usize,
-    plan: u32,
-    what: &[u8],
-) -> usize {
-    let mut at = put(system, room, from, b"plan ");
-    at = put_number(system, room, at, plan as u64);
-    put(system, room, at, what)
-}
-
-fn put_position(
-    system: System,
-    room: &mut [u8; text::ROOM],
-    from: usize,
-    plan: u32,
-    position: u32,
-) -> usize {
-    let mut at = put_plan(system, room, from, plan, b" at ");
-    at = put_number(system, room, at, position as u64);
-    put(system, room, at, b":")
-}
-
-fn put_places(
-    system: System,
-    room: &mut [u8; text::ROOM],
-    from: usize,
-    left: Place,
-    right: Place,
-) -> usize {
-    let mut at = put_place(system, room, from, left);
-    at = put_place(system, room, at, right);
-    put(system, room, at, b"\n")
+fn put_plan(text: &mut Text, plan: u32, what: &[u8]) {
+    text.put(b"plan ");
+    text.put_number(plan as u64);
+    text.put(what);
 }
 
 // The line of a difference.
-fn put_difference(
-    system: System,
-    room: &mut [u8; text::ROOM],
-    from: usize,
-    d: Difference,
-) -> usize {
+fn put_difference(text: &mut Text, d: Difference) {
     match d {
-        Difference::Missing(plan) => put_plan(system, room, from, plan, b" missing\n"),
-        Difference::Header(plan) => put_plan(system, room, from, plan, b" header\n"),
+        Difference::Missing(plan) => put_plan(text, plan, b" missing\n"),
+        Difference::Header(plan) => put_plan(text, plan, b" header\n"),
         Difference::At {
             plan,
             position,
             left,
             right,
         } => {
-            let at = put_position(system, room, from, plan, position);
-            put_places(system, room, at, left, right)
+            put_plan(text, plan, b" at ");
+            text.put_number(position as u64);
+            text.put(b":");
+            put_place(text, left);
+            put_place(text, right);
+            text.put(b"\n");
         }
     }
 }
 
-fn put_count(system: System, room: &mut [u8; text::ROOM], from: usize, lines: u32) {
-    let mut at = put(system, room, from, b"differences ");
-    at = put_number(system, room, at, lines as u64);
-    at = put(system, room, at, b"\n");
-    text::flush(system, room, at);
+fn put_count(text: &mut Text, lines: u32) {
+    text.put(b"differences ");
+    text.put_number(lines as u64);
+    text.put(b"\n");
 }
 
 // All differences of two files. (No two files have so many as there are turns.)
 fn show(system: System, left: &[u8], right: &[u8]) {
-    let mut room = [0u8; text::ROOM];
-    let mut at = 0;
+    let mut text = Text::new(system);
     let mut from = From {
         plan: 1,
         position: 0,
     };
-    let mut lines: u32 = 0;
-    while lines < 1000000 {
+    for lines in 0..1000000 {
         match plans::differing::differ(left, right, from.plan, from.position) {
             Differed::Refused(x) => {
                 refused(system, x);
                 return;
             }
             Differed::Nothing => {
-                put_count(system, &mut room, at, lines);
+                put_count(&mut text, lines);
+                text.flush();
                 return;
             }
             Differed::Found(d) => {
-                at = put_difference(system, &mut room, at, d);
+                put_difference(&mut text, d);
                 from = behind(d);
-                lines += 1;
             }
         }
     }

@@ -23,9 +23,7 @@ fn show(system: System, plan: u32, j: Judged) {
 }
 
 fn show_plans(system: System, file: &[u8], plans: u32) {
-    let mut plan = 0;
-    while plan < plans {
-        plan += 1;
+    for plan in 1..=plans {
         show(system, plan, plans::judging::judge(file, plan));
     }
 }

@@ -1,5 +1,4 @@
 // `plans`: the file of given sets, three arguments a set, on standard output. A refusal is said on standard error, and then nothing is written.
-use numbers::Number;
 use plans::writing::{Length, Written};
 use sets::Refusal;
 use system::{STDERR_FILENO, STDOUT_FILENO, System};
@@ -19,33 +18,19 @@ fn refused(system: System, x: Refusal) {
 }
 
 // The number that argument i says.
-fn number(system: System, i: usize) -> Number {
+fn number(system: System, i: usize) -> Option<u32> {
     let mut one = [0u8; LONGEST];
     let k = system.arg(i, &mut one);
     numbers::read(&one[..k])
 }
 
-// The argument that number k is.
-fn argument(k: usize) -> usize {
-    if k < NUMBERS { FIRST + k } else { 0 }
-}
-
 // Takes `count` arguments as numbers, as far as there is room. Answers whether all are numbers.
-fn take_numbers(system: System, numbers: &mut [u32], count: usize) -> bool {
-    let mut k = 0;
-    while k < numbers.len() {
-        if k >= count {
-            return true;
-        }
-        match number(system, argument(k)) {
-            Number::Value(v) => {
-                numbers[k] = v;
-            }
-            Number::Wrong => {
-                return false;
-            }
-        }
-        k += 1;
+fn take_numbers(system: System, numbers: &mut [u32; NUMBERS], count: usize) -> bool {
+    for k in 0..NUMBERS.min(count) {
+        let Some(v) = number(system, FIRST + k) else {
+            return false;
+        };
+        numbers[k] = v;
     }
     true
 }
@@ -76,22 +61,13 @@ fn write_file(system: System, numbers: &[u32]) {
     }
 }
 
-// The first n numbers, or all where there are fewer.
-fn first(s: &[u32], n: usize) -> &[u32] {
-    if n <= s.len() {
-        return &s[..n];
-    }
-    s
-}
-
 fn write_some(system: System, numbers: &[u32], count: usize) {
-    write_file(system, first(numbers, count));
+    write_file(system, lines::first(numbers, count));
 }
 
 // How many arguments stand behind the command.
 fn given(system: System) -> usize {
-    let n = system.arg_count();
-    if n >= FIRST { n - FIRST } else { 0 }
+    system.arg_count().saturating_sub(FIRST)
 }
 
 // Writes the file of the sets that the arguments give. Answers whether they are in form: three numbers a set.

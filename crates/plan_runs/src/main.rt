@@ -6,12 +6,10 @@ use system::System;
 fn main(rt: HostRuntime) {
     let system = System::of(rt);
     let n = system.arg_count();
-    let mut i = 1;
-    while i < n {
+    for i in 1..n {
         plan_pages::judged::judge(system, i);
         if i < n - 1 {
             plan_pages::compared::differ(system, i, i + 1);
         }
-        i += 1;
     }
 }

@@ -7,6 +7,14 @@ ghost use Rattle.quadratic.specs.Formula.{within, all_apart};
 
 use residues::gcd_of;
 
+// The numbers of a block: K, how many positions it has, and f1 and f2.
+#[derive(Clone, Copy)]
+pub struct Quadratic {
+    pub k: usize,
+    pub f1: usize,
+    pub f2: usize,
+}
+
 fn square(k: u32, x: u32) -> u32
     requires { (0 < k) × (k < 65536) × (x < k) }
     ensures { (result ≡ x * x % k) × (result < k) }

@@ -5,18 +5,29 @@ ghost use Rattle.std.specs.Prelude.{◌≡◌, ◌<◌};
 ghost use Rattle.profiles.specs.declared.Family.TheVariants.{Quadratic};
 ghost use Rattle.families.specs.Rules.{rule_in};
 ghost use Rattle.families.specs.Taken.{Taken, WalkLeaf};
+ghost use Rattle.families.specs.Families.{quadratic_of};
 
 use laws::{Leaf, Way};
 use sets::Set;
+
+// The block: K, f1 and f2.
+fn block_of(set: Set) -> quadratic::Quadratic
+    ensures { result ≡ quadratic_of set }
+{
+    quadratic::Quadratic {
+        k: set.n as usize,
+        f1: set.factors.first as usize,
+        f2: set.factors.second as usize,
+    }
+}
 
 pub fn walk(way: Way, set: Set, cell: usize, out: &mut [u16]) -> Leaf
     requires { Taken set Quadratic }
     ensures { WalkLeaf way set cell out.old out.new result }
 {
-    let f1 = set.factors.first as usize;
-    let f2 = set.factors.second as usize;
+    let q = block_of(set);
     match way {
-        Way::Interleaver => quadratic_walk::walk(set.n as usize, f1, f2, cell, out),
+        Way::Interleaver => quadratic_walk::walk(q, cell, out),
         Way::Deinterleaver => Err(1),
     }
 }
@@ -25,10 +36,9 @@ pub fn address(way: Way, set: Set, x: usize) -> usize
     requires { Taken set Quadratic × (x < set.n) }
     ensures { result ≡ (rule_in way set).l x }
 {
-    let f1 = set.factors.first as usize;
-    let f2 = set.factors.second as usize;
+    let q = block_of(set);
     match way {
-        Way::Interleaver => quadratic_walk::address_of(set.n as usize, f1, f2, x),
-        Way::Deinterleaver => quadratic_walk::place_of(set.n as usize, f1, f2, x),
+        Way::Interleaver => quadratic_walk::address_of(q, x),
+        Way::Deinterleaver => quadratic_walk::place_of(q, x),
     }
 }

@@ -10,6 +10,7 @@ ghost use Rattle.quadratic.specs.Formula.{quadratic_l, quadratic_m, quadratic_ru
 ghost use Rattle.quadratic_walk.specs.Spot.{Whole, Block, SpotAt, SpotIn, Walking, OneOn};
 
 use laws::{Leaf, Went};
+use quadratic::Quadratic;
 use residues::{least, plus};
 
 // Where a walk stands: the address, and how much more the next one is, modulo K.
@@ -21,13 +22,13 @@ struct Spot {
 
 impl Spot {
     // At a position: by division, once a call.
-    fn new(k: usize, f1: usize, f2: usize, t: usize) -> Self
-        requires { Block k f1 f2 t }
-        ensures { SpotAt k f1 f2 t result }
+    fn new(q: Quadratic, t: usize) -> Self
+        requires { Block q.k q.f1 q.f2 t }
+        ensures { SpotAt q.k q.f1 q.f2 t result }
     {
         Spot {
-            value: (f1 * t + f2 * (t * t)) % k,
-            delta: (f1 + f2 + 2 * f2 * t) % k,
+            value: (q.f1 * t + q.f2 * (t * t)) % q.k,
+            delta: (q.f1 + q.f2 + 2 * q.f2 * t) % q.k,
         }
     }
 
@@ -44,11 +45,11 @@ impl Spot {
 }
 
 // What the difference grows by: 2·f2, modulo K.
-fn twice_of(k: usize, f2: usize) -> usize
-    requires { (f2 < k) × (k < 65536) }
-    ensures { result ≡ 2 * f2 % k }
+fn twice_of(q: Quadratic) -> usize
+    requires { (q.f2 < q.k) × (q.k < 65536) }
+    ensures { result ≡ 2 * q.f2 % q.k }
 {
-    2 * f2 % k
+    2 * q.f2 % q.k
 }
 
 // Writes the addresses of two positions, from one on, at out[i] and out[i + 1]; gives back where it then stands.
@@ -78,45 +79,41 @@ fn write_rest(
         → Walking k f1 f2 cell count twice old out.new result count }
 {
     let mut at = start;
-    let mut i = from;
-    while i < count {
+    for i in from..count {
         out[i] = at.value as u16;
         at = at.next(k, twice);
-        i += 1;
     }
     at
 }
 
 // Writes L from a cell on, as far as there is room and cells, four addresses at a time and then the rest; gives back how many.
-fn write(k: usize, f1: usize, f2: usize, cell: usize, out: &mut [u16]) -> usize
-    requires { Block k f1 f2 cell }
-    ensures { Ran (quadratic_l k f1 f2) k cell out.old out.new result }
+fn write(q: Quadratic, cell: usize, out: &mut [u16]) -> usize
+    requires { Block q.k q.f1 q.f2 cell }
+    ensures { Ran (quadratic_l q.k q.f1 q.f2) q.k cell out.old out.new result }
 {
-    let count = least(out.len(), k - cell);
-    let twice = twice_of(k, f2);
-    let mut at = Spot::new(k, f1, f2, cell);
+    let count = least(out.len(), q.k - cell);
+    let twice = twice_of(q);
+    let mut at = Spot::new(q, cell);
     let mut i = 0;
-    let mut fours = count / 4;
-    while fours > 0 {
-        at = write_two(k, twice, at, out, i);
+    'fours: for _ in 0..count / 4 {
+        at = write_two(q.k, twice, at, out, i);
         i += 2;
-        at = write_two(k, twice, at, out, i);
+        at = write_two(q.k, twice, at, out, i);
         i += 2;
-        fours -= 1;
     }
-    write_rest(k, twice, at, out, i, count);
+    write_rest(q.k, twice, at, out, i, count);
     count
 }
 
 // The walk for L from a cell: 9 where it is past the total.
-pub fn walk(k: usize, f1: usize, f2: usize, cell: usize, out: &mut [u16]) -> Leaf
-    requires { Whole k f1 f2 }
-    ensures { LeafOf k (quadratic_rule k f1 f2) cell out.old out.new result }
+pub fn walk(q: Quadratic, cell: usize, out: &mut [u16]) -> Leaf
+    requires { Whole q.k q.f1 q.f2 }
+    ensures { LeafOf q.k (quadratic_rule q.k q.f1 q.f2) cell out.old out.new result }
 {
-    if cell > k {
+    if cell > q.k {
         return Err(9);
     }
-    let count = write(k, f1, f2, cell, out);
+    let count = write(q, cell, out);
     Ok(Went {
         written: count,
         cells: count,
@@ -124,27 +121,25 @@ pub fn walk(k: usize, f1: usize, f2: usize, cell: usize, out: &mut [u16]) -> Lea
 }
 
 // L(t), for t below K.
-pub fn address_of(k: usize, f1: usize, f2: usize, t: usize) -> usize
-    requires { Whole k f1 f2 × (t < k) }
-    ensures { result ≡ quadratic_l k f1 f2 t }
+pub fn address_of(q: Quadratic, t: usize) -> usize
+    requires { Whole q.k q.f1 q.f2 × (t < q.k) }
+    ensures { result ≡ quadratic_l q.k q.f1 q.f2 t }
 {
-    Spot::new(k, f1, f2, t).value
+    Spot::new(q, t).value
 }
 
 // M(a), the position whose address is a, by walking there.
-pub fn place_of(k: usize, f1: usize, f2: usize, a: usize) -> usize
-    requires { Whole k f1 f2 }
-    ensures { result ≡ quadratic_m k f1 f2 a }
+pub fn place_of(q: Quadratic, a: usize) -> usize
+    requires { Whole q.k q.f1 q.f2 }
+    ensures { result ≡ quadratic_m q.k q.f1 q.f2 a }
 {
-    let twice = twice_of(k, f2);
-    let mut at = Spot::new(k, f1, f2, 0);
-    let mut t = 0;
-    while t < k {
+    let twice = twice_of(q);
+    let mut at = Spot::new(q, 0);
+    for t in 0..q.k {
         if at.value == a {
             return t;
         }
-        at = at.next(k, twice);
-        t += 1;
+        at = at.next(q.k, twice);
     }
-    t
+    q.k
 }

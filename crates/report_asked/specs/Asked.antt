@@ -1,23 +1,19 @@
 -- What two lines ask for, request 11: "A line missing or not one to four digits, a first above the last, or either not 40 to 5,114 gives [..] `refused 3`;
 -- the second line may end with the input, and nothing after it is read." And when bytes settle it. These are definitions.
-use Rattle.std.specs.Prelude.{ℕ, Bool, true, false, cond, not, List}
-use Rattle.laws.specs.Outcome.{Outcome, done, refused, judged}
-use Rattle.numbers.specs.declared.Number.{Number}
-use Rattle.numbers.specs.declared.Number.TheVariants.{Value, Wrong}
+use Rattle.std.specs.Prelude.{ℕ, Bool, true, false, cond, not, List, Option, Some, None}
+use Rattle.laws.specs.Outcome.{Outcome, refused, judged}
 use Rattle.wcdma_report.specs.Report.{is_size, totals_lines}
 use Rattle.report_asked.specs.declared.Range.{Range}
-use Rattle.report_asked.specs.declared.Asked.{Asked}
-use Rattle.report_asked.specs.declared.Asked.TheVariants.{Of, Refused}
 use Rattle.report_asked.specs.Lines.{line_of, ended, behind, number_in, begins}
 
 abbrev pub range : ℕ → ℕ → Range
 range first last = record { first = first; last = last }
 
 -- what is asked for by the numbers of two lines: refused as the totals of that range are, and where a line says none
-unfoldable pub range_of : Number → Number → Outcome ℕ Range
-range_of (Value first) (Value last) = judged (λ k. k) (totals_lines first last) (range first last)
-range_of (Value first) Wrong = refused 3
-range_of Wrong n = refused 3
+unfoldable pub range_of : Option ℕ → Option ℕ → Outcome ℕ Range
+range_of (Some first) (Some last) = judged (λ k. k) (totals_lines first last) (range first last)
+range_of (Some first) None = refused 3
+range_of None n = refused 3
 
 -- what is asked for by the bytes of standard input
 unfoldable pub asked_by : List ℕ → Outcome ℕ Range
@@ -25,17 +21,12 @@ asked_by s = cond (ended s) (range_of (number_in (line_of s)) (number_in (line_o
 
 -- the same where the first is known, by the bytes behind its line
 abbrev pub asked_last : ℕ → List ℕ → Outcome ℕ Range
-asked_last first s = range_of (Value first) (number_in (line_of s))
-
--- what an answer says
-abbrev pub say_asked : Asked → Outcome ℕ Range
-say_asked (Of r) = done r
-say_asked (Refused k) = refused k
+asked_last first s = range_of (Some first) (number_in (line_of s))
 
 -- the first line's number goes on to the second line
-abbrev pub is_size_in : Number → Bool
-is_size_in (Value v) = is_size v
-is_size_in Wrong = false
+abbrev pub is_size_in : Option ℕ → Bool
+is_size_in (Some v) = is_size v
+is_size_in None = false
 
 -- the bytes settle it: the first line has begun as no line may, or it has ended and says no size, or the second has begun as no line may. (A line that
 -- has ended holds an LF, and has begun so too.)

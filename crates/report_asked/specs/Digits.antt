@@ -1,9 +1,8 @@
 -- A line's number in plain words: a line says v exactly where it is one to four bytes, each a digit, and v is what they are in decimal. Rests on Lines.
-use Rattle.std.specs.Prelude.{ℕ, suc, ◌+◌, ◌*◌, ◌-◌, ◌^◌, ◌≤◌, ◌<◌, Bool, true, false, cond, List, [], ◌∷◌, ◌↔◌, ◌≡◌, refl, eqb, ltb, length}
+use Rattle.std.specs.Prelude.{ℕ, suc, ◌+◌, ◌*◌, ◌-◌, ◌^◌, ◌≤◌, ◌<◌, Bool, true, false, cond, List, [], ◌∷◌, ◌↔◌, ◌≡◌, refl, eqb, ltb, length, Some, None}
 use Rattle.std.proofs.Common.{sym, ap, ◌∙◌, arith, le-ltb, ltb-false, ne_eqb}
 use Rattle.std.proofs.Math.Nat.{pow-succ', pow-le-pow_right}
 use Rattle.std.proofs.lemmas.Bool.{eqb-false}
-use Rattle.numbers.specs.declared.Number.TheVariants.{Value, Wrong}
 use Rattle.numbers.specs.Decimal.{digit_of, read_from, said_by}
 use Rattle.report_asked.specs.Lines.{ended, number_in}
 
@@ -39,14 +38,14 @@ digit_only b e = go (ltb b 48) (ltb 57 b) refl refl e
     go false false m n e = (ltb-false b 48 m, ltb-false 57 b n)
 
 -- what is read is digits, and what they are
-read_only : (s : List ℕ) (v u : ℕ) → read_from v s ≡ Value u → Digits s × (u ≡ decimal_from v s)
+read_only : (s : List ℕ) (v u : ℕ) → read_from v s ≡ Some u → Digits s × (u ≡ decimal_from v s)
 unfolding read_from
 read_only [] v u e = (tt, let z : u ≡ v = cc in z)
 read_only (b ∷ bs) v u e =
     go (ltb 9 (digit_of b)) (ltb 4294967295 (v * 10 + digit_of b)) refl e (read_only bs (v * 10 + digit_of b) u)
   where
-    go : (p q : Bool) → ltb 9 (digit_of b) ≡ p → cond p Wrong (cond q Wrong (read_from (v * 10 + digit_of b) bs)) ≡ Value u
-        → (read_from (v * 10 + digit_of b) bs ≡ Value u → Digits bs × (u ≡ decimal_from (v * 10 + digit_of b) bs))
+    go : (p q : Bool) → ltb 9 (digit_of b) ≡ p → cond p None (cond q None (read_from (v * 10 + digit_of b) bs)) ≡ Some u
+        → (read_from (v * 10 + digit_of b) bs ≡ Some u → Digits bs × (u ≡ decimal_from (v * 10 + digit_of b) bs))
         → Digits (b ∷ bs) × (u ≡ decimal_from v (b ∷ bs))
     go true q m e r = let z : ◌≡◌ {A = ℕ} 0 1 = cc in absurd (omega arith)
     go false true m e r = let z : ◌≡◌ {A = ℕ} 0 1 = cc in absurd (omega arith)
@@ -56,7 +55,7 @@ read_only (b ∷ bs) v u e =
         ((d, w.0), w.1 ∙ ap (λ (x : ℕ). decimal_from (v * 10 + x) bs) (digit_is b d.0 d.1))
 
 -- digits are read: k of them before, at most four in all
-read_digits : (s : List ℕ) (v k : ℕ) → v < 10 ^ k → k + length s ≤ 4 → Digits s → read_from v s ≡ Value (decimal_from v s)
+read_digits : (s : List ℕ) (v k : ℕ) → v < 10 ^ k → k + length s ≤ 4 → Digits s → read_from v s ≡ Some (decimal_from v s)
 unfolding read_from
 read_digits [] v k h l d = refl
 read_digits (b ∷ bs) v k h l d =
@@ -69,11 +68,11 @@ read_digits (b ∷ bs) v k h l d =
     rw e (simp (le-ltb 9 (b - 48) (omega (arith, d.0.1)), le-ltb 4294967295 (v * 10 + (b - 48)) (omega arith))
     (read_digits bs (v * 10 + (b - 48)) (suc k) x (omega arith) d.1))
 
-pub number_exactly : (s : List ℕ) (v : ℕ) → (number_in s ≡ Value v) ↔ Says s v
+pub number_exactly : (s : List ℕ) (v : ℕ) → (number_in s ≡ Some v) ↔ Says s v
 unfolding number_in said_by
 number_exactly s v = (λ e. only (ltb 4 (length s)) (eqb (length s) 0) refl refl e, λ y. said y)
   where
-    only : (p q : Bool) → ltb 4 (length s) ≡ p → eqb (length s) 0 ≡ q → cond p Wrong (cond q Wrong (cond (ltb 10 (length s)) Wrong (read_from 0 s))) ≡ Value v
+    only : (p q : Bool) → ltb 4 (length s) ≡ p → eqb (length s) 0 ≡ q → cond p None (cond q None (cond (ltb 10 (length s)) None (read_from 0 s))) ≡ Some v
         → Says s v
     only true q m n e = let z : ◌≡◌ {A = ℕ} 0 1 = cc in absurd (omega arith)
     only false true m n e = let z : ◌≡◌ {A = ℕ} 0 1 = cc in absurd (omega arith)
@@ -82,12 +81,12 @@ number_exactly s v = (λ e. only (ltb 4 (length s)) (eqb (length s) 0) refl refl
         let w = read_only s 0 v (simp (le-ltb 10 (length s) (omega arith)) at e) in
         record { some = omega (arith, eqb-false (length s) 0 n); few = l; digits = w.0; decimal = w.1 }
 
-    said : Says s v → number_in s ≡ Value v
+    said : Says s v → number_in s ≡ Some v
     said y =
         let f = y.few in
         let o = y.some in
         simp (le-ltb 4 (length s) f, ne_eqb (length s) 0 (λ z. let w : 1 ≤ 0 = omega (arith, z) in omega arith), le-ltb 10 (length s) (omega arith))
-        (read_digits s 0 0 (omega arith) (omega arith) y.digits ∙ ap Value (sym y.decimal))
+        (read_digits s 0 0 (omega arith) (omega arith) y.digits ∙ ap Some (sym y.decimal))
 
 -- digits have no LF
 digits_unbroken : (s : List ℕ) → Digits s → ended s ≡ false
@@ -95,5 +94,5 @@ unfolding ended
 digits_unbroken [] d = refl
 digits_unbroken (b ∷ bs) d = rw (ne_eqb b 10 (λ z. let w = d.0.0 in omega arith)) (digits_unbroken bs d.1)
 
-pub number_unbroken : (s : List ℕ) {v : ℕ} → number_in s ≡ Value v → ended s ≡ false
+pub number_unbroken : (s : List ℕ) {v : ℕ} → number_in s ≡ Some v → ended s ≡ false
 number_unbroken s {v} e = digits_unbroken s ((number_exactly s v).0 e).digits

@@ -1,11 +1,9 @@
 -- What is asked for, in the sentences of request 11: a first and a last are asked for exactly where the bytes are two lines that say them and
 -- 40 ≤ first ≤ last ≤ 5,114, and all else is refused with 3. Rests on Asked, Digits and Joined.
-use Rattle.std.specs.Prelude.{ℕ, Bool, true, false, cond, not, List, [], ◌∷◌, ◌++◌, ◌↔◌, ◌⊎◌, ◌≡◌, refl}
+use Rattle.std.specs.Prelude.{ℕ, Bool, true, false, cond, not, List, [], ◌∷◌, ◌++◌, ◌↔◌, ◌⊎◌, ◌≡◌, refl, Option, Some, None}
 use Rattle.std.proofs.Common.{append-nil, inl, inr, sym, ap, ◌∙◌, arith}
 use Rattle.std.proofs.lemmas.Bool.{not-false}
 use Rattle.laws.specs.Outcome.{Outcome, done, refused, clear, stopped, settle, done_clear}
-use Rattle.numbers.specs.declared.Number.{Number}
-use Rattle.numbers.specs.declared.Number.TheVariants.{Value, Wrong}
 use Rattle.wcdma_report.specs.Report.{is_range, totals_lines, Between}
 use Rattle.wcdma_report.specs.Sized.{is_range_lem, range_is}
 use Rattle.report_asked.specs.declared.Range.{Range}
@@ -36,7 +34,7 @@ record LastLine (u : List ℕ) (v : ℕ) : Type 0 where
   whole : u ≡ line ++ rest
   over : Over rest
 
-last_line : (u : List ℕ) {v : ℕ} → number_in (line_of u) ≡ Value v → LastLine u v
+last_line : (u : List ℕ) {v : ℕ} → number_in (line_of u) ≡ Some v → LastLine u v
 last_line u {v} e = go (ended u) refl
   where
     go : (x : Bool) → ended u ≡ x → LastLine u v
@@ -51,39 +49,39 @@ last_line u {v} e = go (ended u) refl
           over = inl refl;
         }
 
-line_last : (l rest : List ℕ) {v : ℕ} → Says l v → Over rest → number_in (line_of (l ++ rest)) ≡ Value v
+line_last : (l rest : List ℕ) {v : ℕ} → Says l v → Over rest → number_in (line_of (l ++ rest)) ≡ Some v
 line_last l rest {v} y o = go o
   where
-    n : number_in l ≡ Value v
+    n : number_in l ≡ Some v
     n = (number_exactly l v).1 y
 
-    go : Over rest → number_in (line_of (l ++ rest)) ≡ Value v
+    go : Over rest → number_in (line_of (l ++ rest)) ≡ Some v
     go (inl e) =
         ap (λ (x : List ℕ). number_in (line_of x)) (ap (λ (r : List ℕ). l ++ r) e ∙ append-nil l) ∙ ap number_in (line_whole l (number_unbroken l n)) ∙ n
     go (inr t) =
         ap (λ (r : List ℕ). number_in (line_of (l ++ r))) t.1 ∙ ap number_in (cut_at l t.0 (number_unbroken l n)).line_is ∙ n
 
 -- the numbers of two lines, where something is asked for by them
-range_done : (m n : Number) {a b : ℕ} → range_of m n ≡ done (range a b) → (m ≡ Value a) × (n ≡ Value b) × Between a b
+range_done : (m n : Option ℕ) {a b : ℕ} → range_of m n ≡ done (range a b) → (m ≡ Some a) × (n ≡ Some b) × Between a b
 unfolding range_of
-range_done Wrong n e = let z : ◌≡◌ {A = ℕ} 0 1 = cc in absurd (omega arith)
-range_done (Value x) Wrong e = let z : ◌≡◌ {A = ℕ} 0 1 = cc in absurd (omega arith)
-range_done (Value x) (Value y) {a} {b} e =
+range_done None n e = let z : ◌≡◌ {A = ℕ} 0 1 = cc in absurd (omega arith)
+range_done (Some x) None e = let z : ◌≡◌ {A = ℕ} 0 1 = cc in absurd (omega arith)
+range_done (Some x) (Some y) {a} {b} e =
     let d = done_clear (λ k. k) (range x y) (totals_lines x y) (range a b) e in
     let p : x ≡ a = ap (λ (r : Range). r.first) d.1 in
     let q : y ≡ b = ap (λ (r : Range). r.last) d.1 in
-    (ap Value p, ap Value q, rw (p, q) at (is_range_lem x y (not-false (is_range x y) d.0.0)))
+    (ap Some p, ap Some q, rw (p, q) at (is_range_lem x y (not-false (is_range x y) d.0.0)))
 
-range_is_done : {a b : ℕ} → Between a b → range_of (Value a) (Value b) ≡ done (range a b)
+range_is_done : {a b : ℕ} → Between a b → range_of (Some a) (Some b) ≡ done (range a b)
 unfolding range_of
 range_is_done b = rw (range_is b)
 
 -- .. and where nothing is, it is 3
-range_3 : (m n : Number) {k : ℕ} → range_of m n ≡ refused k → k ≡ 3
+range_3 : (m n : Option ℕ) {k : ℕ} → range_of m n ≡ refused k → k ≡ 3
 unfolding range_of
-range_3 Wrong n {k} e = let z : 3 ≡ k = cc in sym z
-range_3 (Value x) Wrong {k} e = let z : 3 ≡ k = cc in sym z
-range_3 (Value x) (Value y) {k} e = go (is_range x y) e
+range_3 None n {k} e = let z : 3 ≡ k = cc in sym z
+range_3 (Some x) None {k} e = let z : 3 ≡ k = cc in sym z
+range_3 (Some x) (Some y) {k} e = go (is_range x y) e
   where
     go : (t : Bool) → settle (cond (not t) (stopped 3) clear) (λ j. refused j) (done (range x y)) ≡ refused k → k ≡ 3
     go true e = let z : ◌≡◌ {A = ℕ} 0 1 = cc in absurd (omega arith)

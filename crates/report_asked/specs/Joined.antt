@@ -1,5 +1,5 @@
 -- Bytes behind bytes: where the first line is cut then, and that what is no number stays none. Rests on Lines.
-use Rattle.std.specs.Prelude.{ℕ, ◌+◌, ◌*◌, ◌≤◌, Bool, eqb}
+use Rattle.std.specs.Prelude.{ℕ, ◌+◌, ◌*◌, ◌≤◌, Bool, eqb, None}
 use Rattle.std.proofs.Math.Bool.{true, false, cond}
 use Rattle.std.proofs.lemmas.Bool.{false≢true}
 use mathlib.Core.List.{List, [], ◌∷◌, ◌++◌, append-nil, append_assoc}
@@ -8,7 +8,6 @@ use Rattle.std.proofs.Common.{sym, subst, ◌∙◌, arith}
 use Rattle.std.proofs.Math.Dec.{ltb}
 use Rattle.std.proofs.Math.ListN.{length, length-append}
 use borrow.Author.Tests.{le-ltb, ltb-false, eqb-true, ne_eqb}
-use Rattle.numbers.specs.declared.Number.TheVariants.{Wrong}
 use Rattle.numbers.specs.Decimal.{digit_of, read_from, said_by}
 use Rattle.report_asked.specs.Lines.{line_of, ended, behind, number_in}
 
@@ -42,31 +41,31 @@ module _ (t : List ℕ) where
       go true e r = absurd (false≢true (sym e))
       go false e r = r e
 
-  wrong_read : (s : List ℕ) (v : ℕ) → read_from v s ≡ Wrong → read_from v (s ++ t) ≡ Wrong
+  wrong_read : (s : List ℕ) (v : ℕ) → read_from v s ≡ None → read_from v (s ++ t) ≡ None
   unfolding read_from
   wrong_read [] v e = let z : ◌≡◌ {A = ℕ} 0 1 = cc in absurd (omega arith)
   wrong_read (b ∷ bs) v e = go (ltb 9 (digit_of b)) (ltb 4294967295 (v * 10 + digit_of b)) e (wrong_read bs (v * 10 + digit_of b))
     where
-      go : (p q : Bool) → cond p Wrong (cond q Wrong (read_from (v * 10 + digit_of b) bs)) ≡ Wrong
-          → (read_from (v * 10 + digit_of b) bs ≡ Wrong → read_from (v * 10 + digit_of b) (bs ++ t) ≡ Wrong)
-          → cond p Wrong (cond q Wrong (read_from (v * 10 + digit_of b) (bs ++ t))) ≡ Wrong
+      go : (p q : Bool) → cond p None (cond q None (read_from (v * 10 + digit_of b) bs)) ≡ None
+          → (read_from (v * 10 + digit_of b) bs ≡ None → read_from (v * 10 + digit_of b) (bs ++ t) ≡ None)
+          → cond p None (cond q None (read_from (v * 10 + digit_of b) (bs ++ t))) ≡ None
       go true q e r = refl
       go false true e r = refl
       go false false e r = r e
 
   -- bytes that are no number are none with more behind them
-  pub wrong_on : (s : List ℕ) → (length s ≡ 0 → ⊥) → number_in s ≡ Wrong → number_in (s ++ t) ≡ Wrong
+  pub wrong_on : (s : List ℕ) → (length s ≡ 0 → ⊥) → number_in s ≡ None → number_in (s ++ t) ≡ None
   unfolding number_in said_by
   wrong_on s some e = long (ltb 4 (length (s ++ t))) refl
     where
-      short : ltb 4 (length (s ++ t)) ≡ false → read_from 0 s ≡ Wrong
+      short : ltb 4 (length (s ++ t)) ≡ false → read_from 0 s ≡ None
       short h =
           let l = ltb-false 4 (length (s ++ t)) h in
           let f : length s ≤ 4 = omega (arith, length-append s t) in
           simp (le-ltb 4 (length s) f, ne_eqb (length s) 0 some, le-ltb 10 (length s) (omega arith)) at e
 
       long : (x : Bool) → ltb 4 (length (s ++ t)) ≡ x
-          → cond x Wrong (cond (eqb (length (s ++ t)) 0) Wrong (cond (ltb 10 (length (s ++ t))) Wrong (read_from 0 (s ++ t)))) ≡ Wrong
+          → cond x None (cond (eqb (length (s ++ t)) 0) None (cond (ltb 10 (length (s ++ t))) None (read_from 0 (s ++ t)))) ≡ None
       long true h = refl
       long false h =
           let l = ltb-false 4 (length (s ++ t)) h in

@@ -1,8 +1,6 @@
 -- A line of bytes: what stands before the first LF, whether there is one, and what stands behind it; and the number that a line says, one to four digits.
 -- These are definitions.
-use Rattle.std.specs.Prelude.{ℕ, Bool, true, false, cond, ◌||◌, List, [], ◌∷◌, eqb, ltb, length}
-use Rattle.numbers.specs.declared.Number.{Number}
-use Rattle.numbers.specs.declared.Number.TheVariants.{Value, Wrong}
+use Rattle.std.specs.Prelude.{ℕ, Bool, true, false, cond, ◌||◌, List, [], ◌∷◌, eqb, ltb, length, Option, None, is_some}
 use Rattle.numbers.specs.Decimal.{said_by}
 
 -- the first line, without its LF
@@ -21,13 +19,9 @@ behind [] = []
 behind (b ∷ bs) = cond (eqb b 10) bs (behind bs)
 
 -- the number that a line says: one to four digits
-unfoldable pub number_in : List ℕ → Number
-number_in s = cond (ltb 4 (length s)) Wrong (said_by s)
-
-abbrev pub is_number : Number → Bool
-is_number (Value v) = true
-is_number Wrong = false
+unfoldable pub number_in : List ℕ → Option ℕ
+number_in s = cond (ltb 4 (length s)) None (said_by s)
 
 -- a line may begin so: with no byte, or with one to four digits
 unfoldable pub begins : List ℕ → Bool
-begins s = eqb (length s) 0 || is_number (number_in s)
+begins s = eqb (length s) 0 || is_some (number_in s)

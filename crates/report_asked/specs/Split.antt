@@ -1,11 +1,11 @@
 -- What the three parts of a line's bytes have to do with each other, and the loop that looks for the LF. Rests on Lines.
 use Prim.Native.Nat.{ℕ, suc, ◌+◌, ◌≤◌, ◌<◌}
-use Rattle.std.specs.Prelude.{Bool, true, false, cond, ◌≢◌, ◌≡◌, refl, eqb, take, drop, get_or}
+use Rattle.std.specs.Prelude.{Bool, true, false, cond, not, ◌≡◌, refl, eqb, nat_eq, nat_lt, take, drop, unwrap_or, Some, None}
+use Rattle.std.specs.List.{position, position_or_len}
 use mathlib.Core.List.{List, [], ◌∷◌}
 use Rattle.std.proofs.Math.Path.{ap}
-use Rattle.std.proofs.Common.{add-one, arith, drop_of_length-le, eq-eqb, ne_eqb}
+use Rattle.std.proofs.Common.{◌∙◌, add-one, arith, ltb-true, ltb-false}
 use Rattle.std.proofs.Math.ListN.{length}
-use Rattle.std.proofs.Math.Seq.{drop-cons}
 use Rattle.report_asked.specs.Lines.{line_of, ended, behind}
 
 pub line_le : (s : List ℕ) → length (line_of s) ≤ length s
@@ -57,31 +57,41 @@ ended_not (b ∷ bs) h = go (eqb b 10) h (ended_not bs)
     go true h r = absurd (omega arith)
     go false h r = r (omega arith)
 
--- the loop: no LF stands before index i
-pub record Looking (s : List ℕ) (i : ℕ) : Type 0 where
-  pub here : i ≤ length s
-  pub rest : i + length (line_of (drop i s)) ≡ length (line_of s)
+-- the first LF stands behind the first line
+line_length : (s : List ℕ) → position_or_len (λ b. nat_eq b 10) s ≡ length (line_of s)
+unfolding line_of
+line_length [] = refl
+line_length (b ∷ bs) = go (eqb b 10) (line_length bs)
+  where
+    go : (t : Bool) → position_or_len (λ b. nat_eq b 10) bs ≡ length (line_of bs)
+        → cond (not t) (1 + position_or_len (λ b. nat_eq b 10) bs) 0 ≡ length (cond t [] (b ∷ line_of bs))
+    go true e = refl
+    go false e = omega (arith, e)
 
-pub looking_first : (s : List ℕ) → Looking s 0
-looking_first s = record { here = omega arith; rest = omega arith }
+-- the line ends there, or with the bytes
+pub line_found : (s : List ℕ) → unwrap_or (position (λ b. nat_eq b 10) s) (length s) ≡ length (line_of s)
+line_found s = go (nat_lt (position_or_len (λ b. nat_eq b 10) s) (length s)) refl
+  where
+    go : (t : Bool) → nat_lt (position_or_len (λ b. nat_eq b 10) s) (length s) ≡ t
+        → unwrap_or (cond t (Some (position_or_len (λ b. nat_eq b 10) s)) None) (length s) ≡ length (line_of s)
+    go true q = line_length s
+    go false q = omega (arith, line_length s, line_le s, ltb-false (position_or_len (λ b. nat_eq b 10) s) (length s) q)
 
-module _ {s : List ℕ} {i : ℕ} (l : Looking s i) where
-  pub looked_out : length s ≤ i → i ≡ length (line_of s)
-  unfolding line_of
-  looked_out h =
-      let e : line_of (drop i s) ≡ [] = rw (drop_of_length-le s {i = i} h) in
-      let z : length (line_of (drop i s)) ≡ 0 = ap length e in
-      omega (arith, l.rest)
+module _ (s : List ℕ) where
+  pub line_ends : {e : ℕ} → Some e ≡ position (λ b. nat_eq b 10) s → (e ≡ length (line_of s)) × (e < length s)
+  line_ends {e} f = go (nat_lt (position_or_len (λ b. nat_eq b 10) s) (length s)) refl f
+    where
+      go : (t : Bool) → nat_lt (position_or_len (λ b. nat_eq b 10) s) (length s) ≡ t
+          → Some e ≡ cond t (Some (position_or_len (λ b. nat_eq b 10) s)) None → (e ≡ length (line_of s)) × (e < length s)
+      go true q f =
+          let z : e ≡ position_or_len (λ b. nat_eq b 10) s = cc in
+          (z ∙ line_length s, omega (arith, z, ltb-true (position_or_len (λ b. nat_eq b 10) s) (length s) q))
+      go false q f = let z : ◌≡◌ {A = ℕ} 0 1 = cc in absurd (omega arith)
 
-  module _ (h : i < length s) where
-    pub looked_found : get_or s i 0 ≡ 10 → i ≡ length (line_of s)
-    unfolding line_of
-    looked_found e =
-        let z : length (line_of (drop i s)) ≡ 0 = rw (drop-cons s i 0 h) (simp (eq-eqb (get_or s i 0) 10 e)) in
-        omega (arith, l.rest)
-
-    pub looked_on : get_or s i 0 ≢ 10 → Looking s (i + 1)
-    unfolding line_of
-    looked_on n =
-        let z : length (line_of (drop i s)) ≡ suc (length (line_of (drop (i + 1) s))) = rw (add-one i, drop-cons s i 0 h) (simp (ne_eqb (get_or s i 0) 10 n)) in
-        record { here = omega arith; rest = omega (arith, l.rest) }
+  pub line_open : None ≡ position (λ b. nat_eq b 10) s → ended s ≡ false
+  line_open f = go (nat_lt (position_or_len (λ b. nat_eq b 10) s) (length s)) refl f
+    where
+      go : (t : Bool) → nat_lt (position_or_len (λ b. nat_eq b 10) s) (length s) ≡ t
+          → None ≡ cond t (Some (position_or_len (λ b. nat_eq b 10) s)) None → ended s ≡ false
+      go true q f = let z : ◌≡◌ {A = ℕ} 0 1 = cc in absurd (omega arith)
+      go false q f = ended_not s (omega (arith, line_length s, ltb-false (position_or_len (λ b. nat_eq b 10) s) (length s) q))

@@ -1,12 +1,13 @@
 -- What the calls of the library give inside the range, and the loop over the lines. Rests on Text.
 use Prim.Native.Nat.{ℕ, suc, ◌+◌, ◌-◌, ◌≤◌, ◌<◌}
-use Rattle.std.specs.Prelude.{List, ◌≡◌}
+use Rattle.std.specs.Prelude.{◌≡◌}
 use Rattle.std.proofs.Common.{◌∙◌}
 use native.Mathlib.Omega.{arith}
 use Rattle.laws.specs.Outcome.{Outcome, done, refused}
 use Rattle.wcdma_shape.specs.Rectangle.{Size}
 use Rattle.wcdma_report.specs.Report.{figures, sizes_in, Between}
-use Rattle.words.specs.Gathered.{Put}
+use Rattle.words.specs.declared.text.Text.{Text}
+use Rattle.words.specs.Texts.{Puts}
 use Rattle.words.specs.Puts.{put_nothing, put_join}
 use Rattle.report_pages.specs.Text.{row_text, rows_text}
 
@@ -18,24 +19,24 @@ pub given_only : {R A : Type 0} {o : Outcome R A} {b : A} {r : R} → o ≡ done
 given_only g e = let q = e ∙ g in let z : ◌≡◌ {A = ℕ} 0 1 = cc in omega arith
 
 -- the loop: the lines of the sizes before k are put
-pub record Rows (room₀ : List ℕ) (from first last : ℕ) (room : List ℕ) (at k : ℕ) : Type 0 where
+pub record Rows (before : Text) (first last : ℕ) (now : Text) (k : ℕ) : Type 0 where
   pub low : first ≤ k
   pub high : k ≤ last + 1
-  pub so_far : Put room₀ from (rows_text first (k - first)) room at
+  pub so_far : Puts before (rows_text first (k - first)) now
 
 module _ {first last : ℕ} (b : Between first last) where
-  pub rows_none : {room : List ℕ} {from : ℕ} → from ≤ 4096 → Rows room from first last room from first
+  pub rows_none : (t : Text) → Rows t first last t first
   unfolding rows_text
-  rows_none {room} {from} h =
+  rows_none t =
       let n : first - first ≡ 0 = omega arith in
       let r = b.rising in
-      record { low = omega arith; high = omega arith; so_far = rw n (put_nothing room from h) }
+      record { low = omega arith; high = omega arith; so_far = rw n (put_nothing t.room t.at t.within) }
 
-  module _ {room₀ : List ℕ} {from : ℕ} {room : List ℕ} {at k : ℕ} (s : Rows room₀ from first last room at k) where
+  module _ {before now : Text} {k : ℕ} (s : Rows before first last now k) where
     pub row_size : k ≤ last → Size k
     row_size h = record { low = omega (arith, b.low, s.low); high = omega (arith, b.high) }
 
-    pub rows_more : {after : List ℕ} {r : ℕ} → k ≤ last → Put room at (row_text (figures k)) after r → Rows room₀ from first last after r (k + 1)
+    pub rows_more : {after : Text} → k ≤ last → Puts now (row_text (figures k)) after → Rows before first last after (k + 1)
     unfolding rows_text
     rows_more h p =
         let l = s.low in
@@ -43,5 +44,5 @@ module _ {first last : ℕ} (b : Between first last) where
         let e : first + (k - first) ≡ k = omega arith in
         record { low = omega arith; high = omega arith; so_far = rw (n, e) (put_join s.so_far p) }
 
-    pub rows_done : last < k → Put room₀ from (rows_text first (sizes_in first last)) room at
+    pub rows_done : last < k → Puts before (rows_text first (sizes_in first last)) now
     rows_done h = let e : k ≡ last + 1 = omega (arith, s.high) in rw e at s.so_far

@@ -6,7 +6,7 @@ use Rattle.std.proofs.lemmas.List.{take-set-le}
 use Rattle.report_asked.specs.Asked.{settled_by}
 use Rattle.report_asked.specs.Settled.{open_is}
 use Rattle.report_pages.specs.declared.taken.Taken.{Taken}
-use Rattle.report_pages.specs.declared.taken.Taken.TheVariants.{Settled, Ended, Failed}
+use Rattle.report_pages.specs.declared.taken.Taken.TheVariants.{Settled, Ended}
 
 -- the first n bytes of the room, none of them behind bytes that settle it
 pub record Read (room : List ℕ) (n : ℕ) : Type 0 where
@@ -16,7 +16,6 @@ pub record Read (room : List ℕ) (n : ℕ) : Type 0 where
 abbrev pub TakenBy : List ℕ → Taken → Type 0
 TakenBy room (Settled n) = Read room n × (settled_by (take n room) ≡ true)
 TakenBy room (Ended n) = Read room n
-TakenBy room Failed = Unit {0}
 
 pub read_none : (room : List ℕ) → Read room 0
 read_none room = record { few = omega arith; open_before = λ m h. absurd (omega arith) }

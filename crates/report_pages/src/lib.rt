@@ -5,22 +5,21 @@ mod taken; // taken.rt: the bytes of the two lines, and no byte after them
 pub mod text; // text.rt: the text that they give
 
 use system::System;
-use taken::Taken;
-use words::text::ROOM;
+use taken::{MOST, Taken};
+use words::text::Text;
 
 // Prints what the first n bytes give.
-fn print(system: System, bytes: &[u8; taken::MOST], n: usize) {
-    let mut room = [0u8; ROOM];
-    let at = text::put_taken(system, &mut room, bytes, n);
-    words::text::flush(system, &room, at);
+fn print(system: System, bytes: &[u8; MOST], n: usize) {
+    let mut text = Text::new(system);
+    text::put_taken(&mut text, bytes, n);
+    text.flush();
 }
 
 // Reads the two lines, and prints the report or the refusal. Where a read fails, that is told and nothing is printed.
 pub fn report(system: System) {
-    let mut bytes = [0u8; taken::MOST];
+    let mut bytes = [0u8; MOST];
     match taken::take(system, &mut bytes) {
-        Taken::Settled(n) => print(system, &bytes, n),
-        Taken::Ended(n) => print(system, &bytes, n),
-        Taken::Failed => {}
+        Ok(Taken::Settled(n) | Taken::Ended(n)) => print(system, &bytes, n),
+        Err(e) => system.fail(b"interleaver: reading", e),
     }
 }

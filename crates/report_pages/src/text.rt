@@ -1,113 +1,102 @@
-// The text of the report, to the letter: it is gathered in the room, and written where that is full.
-ghost use Rattle.std.specs.Prelude.{◌≤◌, take};
-ghost use Rattle.words.specs.Gathered.{Put};
+// The text of the report, to the letter.
+ghost use Rattle.std.specs.Prelude.{take};
+ghost use Rattle.words.specs.Texts.{Puts};
 ghost use Rattle.wcdma_shape.specs.Rectangle.{Size};
 ghost use Rattle.wcdma_report.specs.Report.{Between, figures, totals, sizes_in};
 ghost use Rattle.report_pages.specs.Text.{field_text, row_text, rows_text, total_text, report_text, refusal_text, answer_text};
 
 use super::taken::MOST;
-use report_asked::Asked;
-use system::System;
 use wcdma_report::{Figures, Totals};
-use words::text::{ROOM, put, put_number};
+use words::text::Text;
 
 // A number, and what stands behind it.
-fn field(system: System, room: &mut [u8; ROOM], from: usize, n: u32, end: &[u8]) -> usize
-    ensures { Put room.old from (field_text n end.now) room.new result }
+fn field(text: &mut Text, n: u32, end: &[u8])
+    ensures { Puts text.old (field_text n end.now) text.new }
 {
-    let at = put_number(system, room, from, n as u64);
-    put(system, room, at, end)
+    text.put_number(n as u64);
+    text.put(end);
 }
 
 // A line: K, R, C, cells and padding.
-fn row(system: System, room: &mut [u8; ROOM], from: usize, f: Figures) -> usize
-    ensures { Put room.old from (row_text f) room.new result }
+fn row(text: &mut Text, f: Figures)
+    ensures { Puts text.old (row_text f) text.new }
 {
-    let k = field(system, room, from, f.k, b" ");
-    let r = field(system, room, k, f.r, b" ");
-    let c = field(system, room, r, f.c, b" ");
-    let cells = field(system, room, c, f.cells, b" ");
-    field(system, room, cells, f.pads, b"\n")
+    field(text, f.k, b" ");
+    field(text, f.r, b" ");
+    field(text, f.c, b" ");
+    field(text, f.cells, b" ");
+    field(text, f.pads, b"\n");
 }
 
-fn row_of(system: System, room: &mut [u8; ROOM], from: usize, k: u32) -> usize
+fn row_of(text: &mut Text, k: u32)
     requires { Size k }
-    ensures { Put room.old from (row_text (figures k)) room.new result }
+    ensures { Puts text.old (row_text (figures k)) text.new }
 {
     match wcdma_report::figures_of(k) {
-        Ok(f) => row(system, room, from, f),
-        Err(_) => from,
+        Ok(f) => row(text, f),
+        Err(_) => {}
     }
 }
 
 // The lines from a first K to a last.
-fn rows(system: System, room: &mut [u8; ROOM], from: usize, first: u32, last: u32) -> usize
-    requires { (from ≤ 4096) × Between first last }
-    ensures { Put room.old from (rows_text first (sizes_in first last)) room.new result }
+fn rows(text: &mut Text, first: u32, last: u32)
+    requires { Between first last }
+    ensures { Puts text.old (rows_text first (sizes_in first last)) text.new }
 {
-    let mut at = from;
-    let mut k = first;
-    while k <= last {
-        at = row_of(system, room, at, k);
-        k += 1;
+    for k in first..last + 1 {
+        row_of(text, k);
     }
-    at
 }
 
 // The last line: sizes, cells and padding.
-fn total(system: System, room: &mut [u8; ROOM], from: usize, t: Totals) -> usize
-    ensures { Put room.old from (total_text t) room.new result }
+fn total(text: &mut Text, t: Totals)
+    ensures { Puts text.old (total_text t) text.new }
 {
-    let at = put(system, room, from, b"total ");
-    let sizes = field(system, room, at, t.sizes, b" ");
-    let cells = field(system, room, sizes, t.cells, b" ");
-    field(system, room, cells, t.pads, b"\n")
+    text.put(b"total ");
+    field(text, t.sizes, b" ");
+    field(text, t.cells, b" ");
+    field(text, t.pads, b"\n");
 }
 
-fn total_of(system: System, room: &mut [u8; ROOM], from: usize, first: u32, last: u32) -> usize
+fn total_of(text: &mut Text, first: u32, last: u32)
     requires { Between first last }
-    ensures { Put room.old from (total_text (totals first last)) room.new result }
+    ensures { Puts text.old (total_text (totals first last)) text.new }
 {
     match wcdma_report::totals_of(first, last) {
-        Ok(t) => total(system, room, from, t),
-        Err(_) => from,
+        Ok(t) => total(text, t),
+        Err(_) => {}
     }
 }
 
-fn put_report(system: System, room: &mut [u8; ROOM], first: u32, last: u32) -> usize
+fn put_report(text: &mut Text, first: u32, last: u32)
     requires { Between first last }
-    ensures { Put room.old 0 (report_text first last) room.new result }
+    ensures { Puts text.old (report_text first last) text.new }
 {
-    let head = put(system, room, 0, b"K R C cells pads\n");
-    let lines = rows(system, room, head, first, last);
-    total_of(system, room, lines, first, last)
+    text.put(b"K R C cells pads\n");
+    rows(text, first, last);
+    total_of(text, first, last);
 }
 
-fn put_refusal(system: System, room: &mut [u8; ROOM], number: u32) -> usize
-    ensures { Put room.old 0 (refusal_text number) room.new result }
+fn put_refusal(text: &mut Text, number: u32)
+    ensures { Puts text.old (refusal_text number) text.new }
 {
-    let at = put(system, room, 0, b"refused ");
-    field(system, room, at, number, b"\n")
+    text.put(b"refused ");
+    field(text, number, b"\n");
 }
 
 // What the bytes of two lines give: the report, or the refusal.
-pub fn put_answer(system: System, room: &mut [u8; ROOM], bytes: &[u8]) -> usize
-    ensures { Put room.old 0 (answer_text bytes.now) room.new result }
+pub fn put_answer(text: &mut Text, bytes: &[u8])
+    ensures { Puts text.old (answer_text bytes.now) text.new }
 {
     match report_asked::read(bytes) {
-        Asked::Of(r) => put_report(system, room, r.first, r.last),
-        Asked::Refused(k) => put_refusal(system, room, k),
+        Ok(r) => put_report(text, r.first, r.last),
+        Err(k) => put_refusal(text, k),
     }
 }
 
 // What the first n of the bytes that were read give.
-pub(super) fn put_taken(
-    system: System,
-    room: &mut [u8; ROOM],
-    bytes: &[u8; MOST],
-    n: usize,
-) -> usize
-    ensures { Put room.old 0 (answer_text (take n bytes.now)) room.new result }
+pub(super) fn put_taken(text: &mut Text, bytes: &[u8; MOST], n: usize)
+    ensures { Puts text.old (answer_text (take n bytes.now)) text.new }
 {
-    put_answer(system, room, lines::first(bytes, n))
+    put_answer(text, lines::first(bytes, n));
 }

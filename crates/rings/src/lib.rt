@@ -25,6 +25,7 @@ pub fn pass(branches: usize, from: usize, input: &[u8], out: &mut [u8])
     requires { (0 < branches) × (branches < 65536) × (length out.old ≡ length input.now) }
     ensures { Passed branches from input.now out.old out.new }
 {
+    // (A `for` over a `step_by` makes a test more at each byte, of whether there is a next one.)
     let mut i = from;
     while i < input.len() {
         out[i] = input[i];
@@ -33,7 +34,8 @@ pub fn pass(branches: usize, from: usize, input: &[u8], out: &mut [u8])
 }
 
 // A stretch of count neighbouring places, from at on: byte from goes to the first of them, and each branches-th after it to the next. Returns the byte
-// that comes after them.
+// that comes after them. (What the loops are given is no struct: of seven things that `turn` hands on, three differ from stretch to stretch and three
+// are lent, and `stretch` puts a known number in place of the last.)
 fn moves(
     branches: usize,
     from: usize,
@@ -48,14 +50,11 @@ fn moves(
     ensures { Stretching branches input.now store.old out.old
         from at (at + count) store.new out.new result (at + count) }
 {
-    let stop = at + count;
     let mut i = from;
-    let mut place = at;
-    while place != stop {
+    for place in at..at + count {
         let byte = input[i];
         out[i] = store[place];
         store[place] = byte;
-        place += 1;
         i += branches;
     }
     i
@@ -101,6 +100,7 @@ pub fn turn(
     ensures { Turned branches first last from at store.old input.now out.old
         store.new out.new result }
 {
+    // (No count of an index: byte, place and what is left go on together, by as much as the ring's end allows.)
     let mut i = from;
     let mut place = at;
     let mut left = count;

@@ -7,19 +7,22 @@ ghost use Rattle.families.specs.Rules.{rule_in};
 ghost use Rattle.families.specs.Taken.{Taken, WalkLeaf};
 ghost use Rattle.families.specs.Families.{stream_of};
 
+use carrier::Carrier;
 use carrier_turned::Stream;
 use laws::{Leaf, Way};
 use sets::Set;
 
-// The block: d, N and s of the two steps, and bits, r and the stream of the third.
+// The block: d, N and s of the first two steps, and bits, r and the stream of the third.
 fn stream_of(set: Set) -> Stream
     ensures { result ≡ stream_of set }
 {
     let numbers = sets::numbers_of(set);
     Stream {
-        d: numbers.d as usize,
-        n: set.n as usize,
-        s: sets::group_of(set) as usize,
+        steps: Carrier {
+            d: numbers.d as usize,
+            n: set.n as usize,
+            s: sets::group_of(set) as usize,
+        },
         bits: set.bits as usize,
         r: numbers.r as usize,
         stream: set.stream as usize,

@@ -1,20 +1,22 @@
 -- What a start and a feed say, and what they leave: the lines that refuse them, in the order of the checks, and the answers in the paper's numbers
 -- and values. Over bytes of any type. Rests on the pattern of every call.
-use Rattle.std.specs.Prelude.{ℕ, not, List, [], ◌∷◌, ◌≡◌, refl, length, eqb}
+use Rattle.std.specs.Prelude.{ℕ, not, List, [], ◌∷◌, ◌≡◌, refl, length, eqb, Result, Ok, Err}
 use Rattle.std.proofs.Common.{ap₂}
 use Rattle.laws.specs.declared.Way.{Way}
 use Rattle.laws.specs.Outcome.{Outcome, done, refused, apart, Line, line, judged, after}
 use Rattle.kinds.specs.declared.Stream.{Stream}
 use Rattle.kinds.specs.Kinds.{known, sizes_of, in_range, start_record}
-use Rattle.streams.specs.declared.Said.{Said}
-use Rattle.streams.specs.declared.Said.TheVariants.{Done, Refused}
 use Rattle.streams.specs.declared.Answer.{Answer}
 use Rattle.streams.specs.Fed.{start_store, fed_output, fed_store, fed_record}
 
+-- what a start or a feed says
+abbrev pub Said : Type 0
+Said = Result (Unit {0}) ℕ
+
 -- an answer's record, or its number
 abbrev pub say_by : Said → Stream → Outcome ℕ Stream
-say_by Done s = done s
-say_by (Refused k) s = refused k
+say_by (Ok u) s = done s
+say_by (Err k) s = refused k
 
 abbrev pub say : Answer → Outcome ℕ Stream
 say r = say_by r.said r.stream
@@ -24,12 +26,12 @@ pub answer_apart : (a b : Answer) → say a ≡ say b → a.stream ≡ b.stream 
 answer_apart a b e q = apart (λ r. (say r, r.stream)) read (λ r. same r.said r.stream) a b (ap₂ (λ (o : Outcome ℕ Stream) (s : Stream). (o, s)) e q)
   where
     read : Outcome ℕ Stream × Stream → Answer
-    read (done s, r) = record { said = Done; stream = r }
-    read (refused k, r) = record { said = Refused k; stream = r }
+    read (done s, r) = record { said = Ok tt; stream = r }
+    read (refused k, r) = record { said = Err k; stream = r }
 
     same : (x : Said) (s : Stream) → read (say_by x s, s) ≡ record { said = x; stream = s }
-    same Done s = refl
-    same (Refused k) s = refl
+    same (Ok u) s = refl
+    same (Err k) s = refl
 
 -- ---- a start
 

@@ -5,7 +5,6 @@
 ghost use Rattle.std.specs.Prelude.{◌≡◌, true, length, replicate};
 ghost use Rattle.laws.specs.declared.Way.TheVariants.{Interleaver, Deinterleaver};
 ghost use Rattle.kinds.specs.Kinds.{sizes_of, in_range};
-ghost use Rattle.streams.specs.declared.Said.TheVariants.{Refused};
 ghost use Rattle.streams.specs.Fed.{Runs};
 ghost use Rattle.streams.specs.Answers.{say, started_of, started_record, started_store};
 ghost use Rattle.streams.specs.Answers.{call, says, record_after, store_after, output_after};
@@ -15,13 +14,10 @@ use kinds::sizes::Sizes;
 use laws::Way;
 
 // What a start or a feed says: it is done, or refused with a number.
-#[derive(Clone, Copy)]
-pub enum Said {
-    Done,
-    Refused(u32),
-}
+pub type Said = Result<(), u32>;
 
-// What it answers. A feed that is done hands the next record on, and one that is refused its own as it came; a start that is refused gives zeros.
+// What it answers, a record beside either: a feed that is done hands the next record on, and one that is refused its own as it came; a start that
+// is refused gives zeros.
 #[derive(Clone, Copy)]
 pub struct Answer {
     pub said: Said,
@@ -30,10 +26,10 @@ pub struct Answer {
 
 // A refusal, with the record that goes with it.
 fn refusal(k: u32, stream: Stream) -> Answer
-    ensures { result ≡ record { said = Refused k; stream = stream } }
+    ensures { result ≡ record { said = Err k; stream = stream } }
 {
     Answer {
-        said: Said::Refused(k),
+        said: Err(k),
         stream,
     }
 }
@@ -52,8 +48,7 @@ fn run(way: Way, s: Stream, store: &mut [u8], input: &[u8], out: &mut [u8]) -> S
     let mut places = s.places;
     let mut first = 0;
     let mut size = z.step;
-    let mut x = 1;
-    while x < z.branches {
+    for x in 1..z.branches {
         let last = first + size;
         let i = s.lead(way, x);
         let left = rings::left_of(turns, rest, i);
@@ -62,7 +57,6 @@ fn run(way: Way, s: Stream, store: &mut [u8], input: &[u8], out: &mut [u8]) -> S
         places[x - 1] = (next - first) as u32;
         first = last;
         size += z.step;
-        x += 1;
     }
     Stream {
         kind: s.kind,
@@ -94,7 +88,7 @@ pub fn feed(way: Way, s: Stream, store: &mut [u8], input: &[u8], out: &mut [u8])
     }
     let stream = run(way, s, store, input, out);
     Answer {
-        said: Said::Done,
+        said: Ok(()),
         stream,
     }
 }
@@ -103,10 +97,8 @@ pub fn feed(way: Way, s: Stream, store: &mut [u8], input: &[u8], out: &mut [u8])
 fn fill(store: &mut [u8], f: u8)
     ensures { store.new ≡ replicate (length store.old) f }
 {
-    let mut i = 0;
-    while i < store.len() {
-        store[i] = f;
-        i += 1;
+    for byte in store.iter_mut() {
+        *byte = f;
     }
 }
 
@@ -124,7 +116,7 @@ pub fn start(kind: u32, store: &mut [u8], f: u8) -> Answer
     }
     fill(store, f);
     Answer {
-        said: Said::Done,
+        said: Ok(()),
         stream: Stream::new(kind),
     }
 }

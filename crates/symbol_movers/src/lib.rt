@@ -1,4 +1,5 @@
-// Symbols of `width` bytes moved by a lent table, either way. Nothing is tested here: whoever calls has filled the table and judged the lengths.
+// Symbols of `width` bytes moved by a lent table, either way. Nothing is tested here: whoever calls has filled the table and judged the lengths. The two
+// loops stay two: which side is stepped and which is looked up is asked once a block, not once a symbol.
 #![tactic(auto)]
 
 ghost use Rattle.std.specs.Prelude.{◌≡◌, ◌+◌, ◌≤◌, length, drop};
@@ -7,16 +8,14 @@ ghost use Rattle.laws.specs.declared.Way.TheVariants.{Interleaver, Deinterleaver
 ghost use Rattle.laws.specs.Loop.{by};
 ghost use Rattle.symbol_movers.specs.Grouped.{Movable, symbols_by};
 
-// Copies one symbol.
+// Copies one symbol. Byte by byte: std's `copy_from_slice` is a call for each symbol, and of a symbol of 1 to 8 bytes it takes up to three times as long.
 fn copy_symbol(width: usize, src: &[u8], from: usize, dst: &mut [u8], to: usize)
     requires width_in_bounds { from + width ≤ length src.now }
     requires width_in_bounds_2 { to + width ≤ length dst.old }
     ensures { dst.new ≡ paste dst.old to (drop from src.now) width }
 {
-    let mut i = 0;
-    while i < width {
+    for i in 0..width {
         dst[to + i] = src[from + i];
-        i += 1;
     }
 }
 
@@ -26,13 +25,11 @@ pub fn gather_by(table: &[u16], n: usize, width: usize, src: &[u8], dst: &mut [u
     ensures { dst.new
         ≡ symbols_by Interleaver (by table.now) n width src.now dst.old }
 {
-    let mut t = 0;
     let mut to = 0;
-    while t < n {
-        let from = table[t] as usize * width;
+    for t in 0..n {
+        let from = usize::from(table[t]) * width;
         copy_symbol(width, src, from, dst, to);
         to += width;
-        t += 1;
     }
 }
 
@@ -42,12 +39,10 @@ pub fn scatter_by(table: &[u16], n: usize, width: usize, src: &[u8], dst: &mut [
     ensures { dst.new
         ≡ symbols_by Deinterleaver (by table.now) n width src.now dst.old }
 {
-    let mut t = 0;
     let mut from = 0;
-    while t < n {
-        let place = table[t] as usize * width;
+    for t in 0..n {
+        let place = usize::from(table[t]) * width;
         copy_symbol(width, src, from, dst, place);
         from += width;
-        t += 1;
     }
 }

@@ -6,7 +6,7 @@ ghost use Rattle.wcdma.specs.Laid.{plain_rule};
 ghost use Rattle.wcdma_cells.specs.Post.{entry_at, CellIn, CellOf, ColumnIn, ColumnOf, FillIn, WentOf};
 
 use laws::{Leaf, Went};
-use wcdma_shape::{Shape, wide16};
+use wcdma_shape::Shape;
 
 // U(j), where s is what the table has for it.
 fn entry_at(p: usize, s: usize, j: usize) -> usize
@@ -48,7 +48,7 @@ fn one_cell(
     let k = shape.k;
     let p = shape.p;
     let x = e[i];
-    let u = entry_at(p, wide16(s[x]), j);
+    let u = entry_at(p, s[x] as usize, j);
     let a = base[i] + u;
     e[i] = next_exponent(x, fall[i], p - 1);
     if a < k {
@@ -73,16 +73,15 @@ fn one_column(
     ensures { ColumnOf shape.k j n e.new out.old out.new result }
 {
     let r = shape.r;
-    let mut i = 0;
     let mut w = n;
-    while i < r {
+    for i in 0..r {
         w = one_cell(shape, i, j, s, base, fall, e, out, w);
-        i += 1;
     }
     w
 }
 
-// The loop of the walk, from row i of column j: a column at a time where there is room for one, else a cell.
+// The loop of the walk, from row i of column j: a column at a time where there is room for one, else a cell. (No count of an index: row, column and
+// how many are written go on together, and it stops where the room is full.)
 pub fn fill(
     shape: Shape,
     cell: usize,

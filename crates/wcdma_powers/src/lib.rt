@@ -58,10 +58,8 @@ fn second_half(top: usize, half: usize, s: &mut [u16; 256])
     requires { HalfIn top half s.old }
     ensures { HalvesOf top half half s.old s.new }
 {
-    let mut x = 0;
-    while x < half {
-        s[half + x] = (top - wcdma_shape::wide16(s[x])) as u16;
-        x += 1;
+    for x in 0..half {
+        s[half + x] = (top - s[x] as usize) as u16;
     }
 }
 
@@ -72,11 +70,9 @@ pub fn powers(p: u32, v: u32, less: u32, s: &mut [u16; 256])
 {
     let half = ((p - 1) / 2) as usize;
     let mut last = 1;
-    let mut x = 0;
-    while x < half {
+    for x in 0..half {
         s[x] = (last - less) as u16;
         last = next_power(p, v, last);
-        x += 1;
     }
     second_half((p - less - less) as usize, half, s);
 }

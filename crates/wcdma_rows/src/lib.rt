@@ -7,12 +7,6 @@ ghost use Rattle.wcdma_rows.specs.Post.{LayIn};
 
 use wcdma_shape::Shape;
 
-fn wide32(x: u32) -> usize
-    ensures { result ≡ x }
-{
-    x as usize
-}
-
 // The exponent of row x where the walk starts at row i of column j.
 fn first_exponent(i: usize, j: u32, x: usize, step: u32, m: u32) -> u32
     requires { (j ≤ 300) × (step < m) × (m < 257) }
@@ -43,13 +37,11 @@ pub fn lay_out(
     let c = shape.c;
     let m = (shape.p - 1) as u32;
     let order = wcdma_shape::order_of(k);
-    let mut x = 0;
-    while x < r {
+    for x in 0..r {
         let t = wcdma_shape::row_at(k, r, &order, x);
         let step = q[x] % m;
         base[x] = t * c;
-        fall[x] = wide32(m - step);
-        at[x] = wide32(first_exponent(i, j, x, step, m));
-        x += 1;
+        fall[x] = (m - step) as usize;
+        at[x] = first_exponent(i, j, x, step, m) as usize;
     }
 }

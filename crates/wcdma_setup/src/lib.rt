@@ -12,6 +12,7 @@ fn next_q(m: u32, last: u32) -> u32
     requires { Sought m last }
     ensures { NextOf m last result }
 {
+    // (A search with no end known beforehand: how far it goes, `requires` says. Nor are the divisors counted: their squares are.)
     let mut q = last;
     let found = 'candidates: loop {
         q += 2;
@@ -37,10 +38,8 @@ pub fn find_numbers(shape: Shape, q: &mut [u32; 20])
     let m = (shape.p - 1) as u32;
     q[0] = 1;
     let mut last = 5;
-    let mut i = 1;
-    while i < shape.r {
+    for i in 1..shape.r {
         last = next_q(m, last);
         q[i] = last;
-        i += 1;
     }
 }

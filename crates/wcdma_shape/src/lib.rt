@@ -58,14 +58,12 @@ fn prime_place(k: usize, r: usize, list: &[u16; 52]) -> usize
         return 12;
     }
     let least = (k - 1) / r;
-    let mut n = 0;
-    while n < 51 {
-        if least <= wide16(list[n]) {
+    for n in 0..51 {
+        if least <= list[n] as usize {
             return n;
         }
-        n += 1;
     }
-    n
+    51
 }
 
 // C.
@@ -96,13 +94,11 @@ fn prime_of(k: usize, r: usize, list: &[u16; 52]) -> usize
         return 53;
     }
     let least = (k - 1) / r;
-    let mut n = 0;
-    while n < 51 {
-        let p = wide16(list[n]);
+    for n in 0..51 {
+        let p = list[n] as usize;
         if least <= p {
             return p;
         }
-        n += 1;
     }
     257
 }
@@ -126,7 +122,7 @@ pub fn shape_of(k: usize) -> Shape
     let r = rows_of(k);
     let list = tables::primes_table();
     let n = prime_place(k, r, &list);
-    let p = wide16(list[n]);
+    let p = list[n] as usize;
     let c = cols_of(k, r, p);
     let v = tables::root_at(n);
     Shape { k, r, p, c, v }
@@ -156,17 +152,5 @@ pub fn row_at(k: usize, r: usize, order: &[u8; 20], i: usize) -> usize
     requires { RowIn k r i order.now }
     ensures { result ≡ row_at k i }
 {
-    if r < 20 { r - 1 - i } else { wide8(order[i]) }
-}
-
-fn wide8(x: u8) -> usize
-    ensures { result ≡ x }
-{
-    x as usize
-}
-
-pub fn wide16(x: u16) -> usize
-    ensures { result ≡ x }
-{
-    x as usize
+    if r < 20 { r - 1 - i } else { order[i] as usize }
 }

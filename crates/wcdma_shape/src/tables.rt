@@ -38,7 +38,7 @@ pub(super) fn root_at(n: usize) -> u32
     requires { n < 52 }
     ensures { result ≡ root (get_or primes n 0) }
 {
-    wide(ROOTS[n])
+    ROOTS[n] as u32
 }
 
 // One of the two row orders of twenty rows.
@@ -47,10 +47,4 @@ pub(super) fn order_at(n: usize) -> [u8; 20]
     ensures { result ≡ get_or row_orders n [] }
 {
     ORDERS[n]
-}
-
-fn wide(x: u8) -> u32
-    ensures { result ≡ x }
-{
-    x as u32
 }

@@ -57,21 +57,19 @@ pub fn address_of(k: usize, t: usize) -> usize
 {
     let mut table = [0u16; 5114];
     let _ = walk(k, 0, &mut table[..t + 1]);
-    wcdma_shape::wide16(table[t])
+    table[t] as usize
 }
 
 // The first place of an address in a list.
 fn find(list: &[u16], a: usize) -> usize
     ensures { result ≡ position a list.now }
 {
-    let mut i = 0;
-    while i < list.len() {
-        if wcdma_shape::wide16(list[i]) == a {
+    for (i, &address) in list.iter().enumerate() {
+        if address as usize == a {
             return i;
         }
-        i += 1;
     }
-    i
+    list.len()
 }
 
 // M at a position, by its place in the whole list.

@@ -3,3 +3,4 @@ pub mod Joined
 pub mod Room
 pub mod Spelled
 pub mod Puts
+pub mod Texts

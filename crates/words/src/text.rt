@@ -1,4 +1,5 @@
 // Text that is gathered before it is written: a system call for each part of a line would cost more than the line.
+ghost use Rattle.std.specs.Prelude.{◌≡◌, ◌≤◌};
 ghost use Rattle.words.specs.Gathered.{Put, PutNumber};
 
 use lines::first;
@@ -8,15 +9,65 @@ use system::{STDERR_FILENO, STDOUT_FILENO, System};
 // The room that text is gathered in.
 pub const ROOM: usize = 4096;
 
+// Text on its way to standard output: so many bytes wait at the start of the room.
+#[derive(Drop)]
+pub struct Text {
+    system: System,
+    room: [u8; ROOM],
+    at: usize,
+    ghost within: { at ≤ 4096 },
+}
+
+impl Text {
+    ghost use Rattle.words.specs.Texts.{Puts, PutsNumber};
+
+    // Nothing waits.
+    pub fn new(system: System) -> Text
+        ensures { result.at ≡ 0 }
+    {
+        Text {
+            system,
+            room: [0u8; ROOM],
+            at: 0,
+        }
+    }
+
+    // Puts s behind what waits. A full room is written first.
+    pub fn put(&mut self, s: &[u8])
+        ensures { Puts self.old s.now self.new }
+    {
+        for b in s {
+            if self.at == ROOM {
+                write(self.system, STDOUT_FILENO, &self.room);
+                self.at = 0;
+            }
+            self.room[self.at] = *b;
+            self.at += 1;
+        }
+    }
+
+    // The same for a number in decimal.
+    pub fn put_number(&mut self, n: u64)
+        ensures { PutsNumber self.old n self.new }
+    {
+        let mut digits = [0u8; 20];
+        let k = io::decimal(n, &mut digits);
+        self.put(&digits[..k]);
+    }
+
+    // Writes what waits.
+    pub fn flush(self) {
+        write(self.system, STDOUT_FILENO, &self.room[..self.at]);
+    }
+}
+
 // Std writes to no other descriptor: a write to one fails.
 fn send(system: System, fd: i32, s: &[u8]) -> Result<()> {
-    if fd == STDOUT_FILENO {
-        return system.print(s);
+    match fd {
+        STDOUT_FILENO => system.print(s),
+        STDERR_FILENO => system.tell(s),
+        _ => Err(Error::new(ErrorKind::InvalidInput, "Bad file descriptor")),
     }
-    if fd == STDERR_FILENO {
-        return system.tell(s);
-    }
-    Err(Error::new(ErrorKind::InvalidInput, "Bad file descriptor"))
 }
 
 // Writes s, and says so where that fails.

@@ -3,7 +3,7 @@ use Rattle.adders.specs.Adding.{may_hear, added_more}
 use Rattle.adders.proofs.add_by.Goals as goal
 
 pub hear-requires : goal.hear-requires
-hear-requires c = rw c.from-a.ensures (may_hear c.requires c.loop-t.invariant c.loop-t-test.true)
+hear-requires c = let may = may_hear c.requires c.loop-t.invariant c.loop-t-test.true in rw (← c.from-a.ensures) at may
 
 pub loop-t-preserved : goal.loop-t-preserved
 loop-t-preserved c = let e = c.hear.ensures in added_more c.requires c.loop-t.invariant c.loop-t-test.true (rw c.from-a.ensures at e.sums_after) (rw c.from-a.ensures at e.counts_after)

@@ -5,4 +5,4 @@ use Rattle.big_end.proofs.pair_at.Goals as goal
 
 pub returns : goal.returns
 unfolding pair_at
-returns c = omega arith
+returns c = omega (arith, c.from_be_bytes.ensures)

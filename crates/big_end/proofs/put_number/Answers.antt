@@ -1,18 +1,13 @@
 -- `big_end::put_number` stores four bytes.
-use native.Mathlib.Omega.{arith}
-use Prim.Native.Nat.{◌/◌, ◌%◌}
-use lib.ListN.{length-set}
-use Rattle.big_end.specs.Stores.{four}
+use Rattle.std.proofs.Common.{◌≡◌, ◌∙◌, ap, arith}
+use Rattle.std.proofs.lemmas.List.Edits.{sets}
+use Rattle.std.specs.Prelude.{length}
+use Rattle.laws.specs.Parts.{part_back}
+use Rattle.big_end.specs.Numbers.{number_bytes}
 use Rattle.big_end.proofs.put_number.Goals as goal
 
-pub bounds-out-at-2 : goal.bounds-out-at-2
-bounds-out-at-2 c = simp length-set (omega (arith, c.requires))
-
-pub bounds-out-at-3 : goal.bounds-out-at-3
-bounds-out-at-3 c = simp length-set (omega (arith, c.requires))
-
-pub bounds-out-at-4 : goal.bounds-out-at-4
-bounds-out-at-4 c = simp length-set (omega (arith, c.requires))
-
 pub returns : goal.returns
-returns c = let v = c.args.v in four c.args.out.now c.args.at (v / 16777216 % 256) (v / 65536 % 256) (v / 256 % 256) (v % 256)
+returns c =
+    let a = c.args in
+    let new : c.copy_from_slice.new.self ≡ number_bytes a.v = c.copy_from_slice.ensures.after ∙ c.to_be_bytes.ensures in
+    part_back a.out.now a.at _ _ (ap length new ∙ omega arith) (omega (arith, c.requires)) ∙ ap (sets a.out.now a.at) new

@@ -1,12 +1,8 @@
--- `carrier_columns::down` writes M down a part of a column. The loop's invariant is the law of a lane; the measure is what is left of the part.
+-- `carrier_columns::down` writes M down a part of a column. The loop's invariant is the law of a lane.
 use native.Mathlib.Omega.{arith}
 use Rattle.laws.specs.Sized.{d_le}
-use Rattle.laws.specs.Lanes.{going_all}
-use Rattle.carrier_columns.specs.Down.{down_first, row_in, address_small, down_step, down_next}
+use Rattle.carrier_columns.specs.Down.{row_in, address_small, down_step, down_next}
 use Rattle.carrier_columns.proofs.down.Goals as goal
-
-pub loop-i-init : goal.loop-i-init
-loop-i-init c = down_first c.requires
 
 pub address-requires : goal.address-requires
 address-requires c = address_small c.requires c.loop-i.invariant c.loop-i-test.true
@@ -14,20 +10,8 @@ address-requires c = address_small c.requires c.loop-i.invariant c.loop-i-test.t
 pub overflow_cast-out : goal.overflow_cast-out
 overflow_cast-out c = omega (arith, c.address.ensures, address_small c.requires c.loop-i.invariant c.loop-i-test.true)
 
-pub offset_bounds-out-i : goal.offset_bounds-out-i
-offset_bounds-out-i c = omega (arith, c.requires.part.room, c.loop-i-test.true)
-
-pub bounds-out-i : goal.bounds-out-i
-bounds-out-i c = omega (arith, c.requires.part.room, c.loop-i.invariant.long, c.loop-i-test.true)
-
 pub next-at-requires : goal.next-at-requires
 next-at-requires c = down_step c.requires c.loop-i.invariant c.loop-i-test.true
-
-pub overflow_add-i : goal.overflow_add-i
-overflow_add-i c = omega (arith, c.loop-i-test.true)
-
-pub loop-i-smaller : goal.loop-i-smaller
-loop-i-smaller c = omega (arith, c.loop-i-test.true)
 
 pub loop-i-preserved : goal.loop-i-preserved
 loop-i-preserved c =
@@ -35,9 +19,3 @@ loop-i-preserved c =
     let g = c.loop-i.invariant in
     let h = c.loop-i-test.true in
     down_next z g h c.address.ensures (c.next-at.ensures _ _ _ (omega (arith, row_in z g h, d_le z.size)))
-
-pub shape_of-out : goal.shape_of-out
-shape_of-out c = c.loop-i.invariant.long
-
-pub returns : goal.returns
-returns c = going_all _ _ _ c.loop-i.invariant c.loop-i-test.false

@@ -1,11 +1,8 @@
 -- `carrier_columns::walk` is the walk for M from any cell: 9 by its test, and else what `write` wrote.
-use Rattle.laws.specs.Leaves.{leaf_past, ran_leaf}
+use Rattle.laws.specs.Leaves.{ran_leaf}
 use Rattle.carrier.proofs.Once.{carrier_once}
 use Rattle.carrier_columns.proofs.walk.Goals as goal
 
-pub returns-then-n-cell : goal.returns-then-n-cell
-returns-then-n-cell c = leaf_past c.if-n-cell.true
-
 pub returns : goal.returns
 returns c =
-    ran_leaf (carrier_once c.requires.size).m_below c.if-n-cell.false c.write-count.ensures
+    ran_leaf (carrier_once c.requires.size).m_below c.if-b-cell.false c.write-count.ensures

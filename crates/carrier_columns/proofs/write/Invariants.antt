@@ -4,7 +4,7 @@ use Rattle.carrier_columns.specs.Down.{Columns}
 use Rattle.carrier_columns.proofs.write.Given as goal
 
 abbrev pub invariant-loop-i : goal.invariant-loop-i
-invariant-loop-i l = Columns l.d l.n l.s l.cell l.count l.initial.out l.out l.col l.row l.at l.i
+invariant-loop-i l = Columns l.b.d l.b.n l.b.s l.cell l.count l.initial.out l.out l.col l.row l.at l.i
 
 abbrev pub decreases-loop-i : goal.decreases-loop-i
 decreases-loop-i l = l.count - l.i

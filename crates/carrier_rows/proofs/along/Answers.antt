@@ -1,4 +1,4 @@
--- `carrier_rows::along` writes L along a part of a row. The loop's invariant is the law of a lane; the measure is what is left of the part.
+-- `carrier_rows::along` writes L along a part of a row. The loop's invariant is the law of a lane.
 use native.Mathlib.Omega.{arith}
 use Rattle.laws.specs.Lanes.{going_all}
 use Rattle.carrier_rows.specs.Along.{along_first, address_small, along_step, along_next}
@@ -6,13 +6,13 @@ use Rattle.carrier_rows.specs.Straight.{straight_in, straight_out}
 use Rattle.carrier_rows.proofs.along.Goals as goal
 
 pub straight-requires : goal.straight-requires
-straight-requires c = straight_in c.if-s-eq1.true c.requires
+straight-requires c = straight_in c.if-b-eq1.true c.requires
 
-pub shape_of-out-then-s-eq1 : goal.shape_of-out-then-s-eq1
-shape_of-out-then-s-eq1 c = c.straight.ensures.long
+pub shape_of-out-then-b-eq1 : goal.shape_of-out-then-b-eq1
+shape_of-out-then-b-eq1 c = c.straight.ensures.long
 
-pub returns-then-s-eq1 : goal.returns-then-s-eq1
-returns-then-s-eq1 c = straight_out _ _ _ c.if-s-eq1.true c.straight.ensures
+pub returns-then-b-eq1 : goal.returns-then-b-eq1
+returns-then-b-eq1 c = straight_out _ _ _ c.if-b-eq1.true c.straight.ensures
 
 pub loop-i-init : goal.loop-i-init
 loop-i-init c = along_first c.requires
@@ -31,12 +31,6 @@ bounds-out-i c = omega (arith, c.requires.part.room, c.loop-i.invariant.long, c.
 
 pub next-at-requires : goal.next-at-requires
 next-at-requires c = along_step c.requires c.loop-i.invariant c.loop-i-test.true
-
-pub overflow_add-i : goal.overflow_add-i
-overflow_add-i c = omega (arith, c.loop-i-test.true)
-
-pub loop-i-smaller : goal.loop-i-smaller
-loop-i-smaller c = omega (arith, c.loop-i-test.true)
 
 pub loop-i-preserved : goal.loop-i-preserved
 loop-i-preserved c =

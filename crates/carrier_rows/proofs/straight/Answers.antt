@@ -20,12 +20,6 @@ bounds-out-i c = omega (arith, c.requires.part.room, c.loop-i.invariant.long, c.
 pub overflow_add-a : goal.overflow_add-a
 overflow_add-a c = let z = c.requires in omega (arith, straight_small z c.loop-i.invariant c.loop-i-test.true, d_le z.size, z.small)
 
-pub overflow_add-i : goal.overflow_add-i
-overflow_add-i c = omega (arith, c.loop-i-test.true)
-
-pub loop-i-smaller : goal.loop-i-smaller
-loop-i-smaller c = omega (arith, c.loop-i-test.true)
-
 pub loop-i-preserved : goal.loop-i-preserved
 loop-i-preserved c = straight_next c.requires c.loop-i.invariant c.loop-i-test.true
 

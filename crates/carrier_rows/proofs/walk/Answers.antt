@@ -5,14 +5,14 @@ use Rattle.laws.specs.Leaves.{leaf_past, ran_leaf}
 use Rattle.carrier.proofs.Once.{carrier_once}
 use Rattle.carrier_rows.proofs.walk.Goals as goal
 
-pub returns-then-n-cell : goal.returns-then-n-cell
-returns-then-n-cell c = leaf_past c.if-n-cell.true
+pub returns-then-b-cell : goal.returns-then-b-cell
+returns-then-b-cell c = leaf_past c.if-b-cell.true
 
 pub returns-then-out-eq0 : goal.returns-then-out-eq0
 returns-then-out-eq0 c =
-    ran_leaf (carrier_once c.requires.size).l_below c.if-n-cell.false
+    ran_leaf (carrier_once c.requires.size).l_below c.if-b-cell.false
     (record { count_is = omega (arith, c.if-out-eq0.true); list_is = refl })
 
 pub returns : goal.returns
 returns c =
-    ran_leaf (carrier_once c.requires.size).l_below c.if-n-cell.false c.write-count.ensures
+    ran_leaf (carrier_once c.requires.size).l_below c.if-b-cell.false c.write-count.ensures

@@ -9,8 +9,8 @@ use Rattle.laws.specs.Lanes.{part, lanes_first, lanes_next, lanes_all}
 use Rattle.carrier_rows.specs.Along.{cell_is, set_up, rows_whole, lift_small, top_fits}
 use Rattle.carrier_rows.proofs.write.Goals as goal
 
-pub overflow_sub-n : goal.overflow_sub-n
-overflow_sub-n c = c.requires.cell_in
+pub overflow_sub-b : goal.overflow_sub-b
+overflow_sub-b c = c.requires.cell_in
 
 pub least-count-requires : goal.least-count-requires
 least-count-requires c = tt
@@ -26,7 +26,7 @@ pub nonzero_div-c : goal.nonzero_div-c
 nonzero_div-c c = c.requires.size.d_pos
 
 pub overflow_cast-c-3 : goal.overflow_cast-c-3
-overflow_cast-c-3 c = omega (arith, div-le_self c.args.n c.args.d, c.requires.small)
+overflow_cast-c-3 c = omega (arith, div-le_self c.args.b.n c.args.b.d, c.requires.small)
 
 pub overflow_sub-top : goal.overflow_sub-top
 overflow_sub-top c = c.requires.size.s_pos
@@ -41,27 +41,27 @@ pub overflow_cast-row : goal.overflow_cast-row
 overflow_cast-row c = let b = c.requires in omega (arith, b.cell_in, b.small)
 
 pub overflow_cast-row-2 : goal.overflow_cast-row-2
-overflow_cast-row-2 c = omega (arith, div-le_self c.args.n c.args.d, c.requires.small)
+overflow_cast-row-2 c = omega (arith, div-le_self c.args.b.n c.args.b.d, c.requires.small)
 
 pub nonzero_div-row : goal.nonzero_div-row
 nonzero_div-row c = row_pos c.requires.size
 
 pub overflow_cast-row-3 : goal.overflow_cast-row-3
 overflow_cast-row-3 c =
-    omega (arith, div-le_self c.args.cell (c.args.n / c.args.d), c.requires.cell_in, c.requires.small)
+    omega (arith, div-le_self c.args.cell (c.args.b.n / c.args.b.d), c.requires.cell_in, c.requires.small)
 
 pub overflow_cast-col : goal.overflow_cast-col
 overflow_cast-col c = let b = c.requires in omega (arith, b.cell_in, b.small)
 
 pub overflow_cast-col-2 : goal.overflow_cast-col-2
-overflow_cast-col-2 c = omega (arith, div-le_self c.args.n c.args.d, c.requires.small)
+overflow_cast-col-2 c = omega (arith, div-le_self c.args.b.n c.args.b.d, c.requires.small)
 
 pub nonzero_rem-col : goal.nonzero_rem-col
 nonzero_rem-col c = row_pos c.requires.size
 
 pub overflow_cast-col-3 : goal.overflow_cast-col-3
 overflow_cast-col-3 c =
-    omega (arith, mod-lt c.args.cell (row_pos c.requires.size), div-le_self c.args.n c.args.d, c.requires.small)
+    omega (arith, mod-lt c.args.cell (row_pos c.requires.size), div-le_self c.args.b.n c.args.b.d, c.requires.small)
 
 pub overflow_sub-c : goal.overflow_sub-c
 overflow_sub-c c = le_of_lt (mod-lt _ (row_pos c.requires.size))
@@ -105,7 +105,7 @@ overflow_add-row c =
 pub overflow_add-i : goal.overflow_add-i
 overflow_add-i c =
     let stop_le : c.loop-i.stop ≤ c.least-count.result = omega (arith, c.loop-i.invariant.1) in
-    omega (arith, stop_le, c.least-count.ensures, c.requires.small, div-le_self c.args.n c.args.d)
+    omega (arith, stop_le, c.least-count.ensures, c.requires.small, div-le_self c.args.b.n c.args.b.d)
 
 pub least-stop-requires-in-loop-i : goal.least-stop-requires-in-loop-i
 least-stop-requires-in-loop-i c = tt
@@ -117,7 +117,7 @@ loop-i-smaller c =
 pub loop-i-preserved : goal.loop-i-preserved
 loop-i-preserved c =
     let b = c.requires in (
-      lanes_next c.loop-i.invariant.0 c.loop-i-test.true c.loop-i.invariant.1 c.along-end.ensures (c.next_row-at.ensures _ _ b.size refl),
+      lanes_next c.loop-i.invariant.0 c.loop-i-test.true c.loop-i.invariant.1 c.along-end.ensures (c.next_row-at.ensures b.size refl),
       omega (arith, c.least-stop-in-loop-i.ensures),
     )
 

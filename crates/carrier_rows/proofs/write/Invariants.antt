@@ -7,7 +7,7 @@ use Rattle.carrier_rows.proofs.write.Given as goal
 
 abbrev pub invariant-loop-i : goal.invariant-loop-i
 invariant-loop-i l =
-    Rows l.d l.n l.s l.cell l.count l.initial.out l.out l.row l.col l.at l.i × (l.stop ≡ min l.count (l.i + (l.c - l.col)))
+    Rows l.b.d l.b.n l.b.s l.cell l.count l.initial.out l.out l.row l.col l.at l.i × (l.stop ≡ min l.count (l.i + (l.c - l.col)))
 
 abbrev pub decreases-loop-i : goal.decreases-loop-i
 decreases-loop-i l = l.count - l.i

@@ -10,12 +10,9 @@ pub loop-i-init : goal.loop-i-init
 loop-i-init c = search (rules, gone_one)
 
 pub loop-i-preserved : goal.loop-i-preserved
-loop-i-preserved c = (
-  gone_more _ _ _ _ _ c.loop-i.invariant.0 refl (c.smaller-d.ensures ∙ ap (λ (e : ℕ). min c.loop-i.d e) c.distance.ensures),
-  omega (arith, c.loop-i-test.true),
-)
+loop-i-preserved c = gone_more _ _ _ _ _ c.loop-i.invariant refl (c.min-d.ensures ∙ ap (λ (e : ℕ). min c.loop-i.d e) c.distance.ensures)
 
 pub returns : goal.returns
 returns c =
-    let e : c.loop-i.i ≡ c.args.k = omega (arith, c.loop-i.invariant.1) in
-    gone_before _ _ _ _ (rw e at c.loop-i.invariant.0)
+    let e : c.loop-i.i ≡ c.args.k = omega (arith, c.loop-i.auto.i-end) in
+    gone_before _ _ _ _ (rw e at c.loop-i.invariant)

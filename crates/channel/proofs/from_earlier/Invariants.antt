@@ -1,10 +1,6 @@
 -- The invariant: d is the least distance of byte k from bytes 0 to i - 1.
-use Prim.Native.Nat.{◌≤◌, ◌-◌}
 use Rattle.channel.specs.Nearest.{apart, Gone}
 use Rattle.channel.proofs.from_earlier.Given as goal
 
 abbrev pub invariant-loop-i : goal.invariant-loop-i
-invariant-loop-i l = Gone (λ m. apart l.kind l.at m l.k) l.i l.d × (l.i ≤ l.k)
-
-abbrev pub decreases-loop-i : goal.decreases-loop-i
-decreases-loop-i l = l.k - l.i
+invariant-loop-i l = Gone (λ m. apart l.kind l.at m l.k) l.i l.d

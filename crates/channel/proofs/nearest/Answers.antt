@@ -11,11 +11,8 @@ loop-k-init c = search (rules, gone_one)
 
 pub loop-k-preserved : goal.loop-k-preserved
 loop-k-preserved c =
-    let i = c.loop-k.invariant in (
-      gone_more _ _ _ _ _ i.0 (omega (arith, i.1)) (c.smaller-d.ensures ∙ ap (λ (e : ℕ). min c.loop-k.d e) c.from_earlier.ensures),
-      omega (arith, i.1),
-      omega (arith, i.1, c.loop-k-test.true),
-    )
+    let l = c.loop-k in
+    (gone_more _ _ _ _ _ l.invariant.0 (omega (arith, l.auto.k)) (c.min-d.ensures ∙ ap (λ (e : ℕ). min l.d e) c.from_earlier.ensures), omega arith)
 
 pub returns : goal.returns
-returns c = let i = c.loop-k.invariant in gone_all _ _ _ _ _ i.0 (omega (arith, i.1, i.2))
+returns c = let l = c.loop-k in gone_all _ _ _ _ _ l.invariant.0 (omega arith)

@@ -4,7 +4,4 @@ use Rattle.channel.specs.Nearest.{nearest_before, Gone}
 use Rattle.channel.proofs.nearest.Given as goal
 
 abbrev pub invariant-loop-k : goal.invariant-loop-k
-invariant-loop-k l = Gone (nearest_before l.kind l.at) (l.k - 1) l.d × (2 ≤ l.k) × (l.k - 2 ≤ l.n - 2)
-
-abbrev pub decreases-loop-k : goal.decreases-loop-k
-decreases-loop-k l = l.n - l.k
+invariant-loop-k l = Gone (nearest_before l.kind l.at) (l.k - 1) l.d × (l.k - 2 ≤ l.n - 2)

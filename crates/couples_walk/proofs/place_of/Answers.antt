@@ -1,5 +1,6 @@
--- `couples_walk::place_of` is M: the walk stops at the couple. The measure is what is left of the block.
+-- `couples_walk::place_of` is M: the walk stops at the couple.
 use mathlib.Core.Path.{sym, ◌∙◌}
+use native.Mathlib.Nat.{le_antisymm}
 use native.Mathlib.Omega.{arith}
 use Rattle.laws.specs.Seek.{seek_first, seek_here, seek_next, seek_end}
 use Rattle.couples.specs.Formula.{couple_m}
@@ -12,8 +13,8 @@ new-at-requires c = record { numbered = c.requires; cell_in = omega arith }
 pub loop-j-init : goal.loop-j-init
 loop-j-init c = seek_first c.requires c.new-at.ensures
 
-pub overflow_cast-couples : goal.overflow_cast-couples
-overflow_cast-couples c = omega (arith, c.loop-j.invariant.kept.small)
+pub overflow_cast-n : goal.overflow_cast-n
+overflow_cast-n c = omega (arith, c.requires.small)
 
 pub returns-then-at-a : goal.returns-then-at-a
 unfolding couple_m
@@ -24,12 +25,6 @@ returns-then-at-a c =
 pub next-at-requires : goal.next-at-requires
 next-at-requires c = let g = c.loop-j.invariant in ready_in g.kept g.state
 
-pub overflow_add-j : goal.overflow_add-j
-overflow_add-j c = omega (arith, c.loop-j-test.true, c.loop-j.invariant.kept.small)
-
-pub loop-j-smaller : goal.loop-j-smaller
-loop-j-smaller c = omega (arith, c.loop-j-test.true)
-
 pub loop-j-preserved : goal.loop-j-preserved
 loop-j-preserved c =
     let g = c.loop-j.invariant in
@@ -37,4 +32,5 @@ loop-j-preserved c =
 
 pub returns : goal.returns
 unfolding couple_m
-returns c = seek_end c.loop-j.invariant c.loop-j-test.false
+returns c =
+    sym (le_antisymm c.loop-j.invariant.far c.loop-j-test.false) ∙ seek_end c.loop-j.invariant c.loop-j-test.false

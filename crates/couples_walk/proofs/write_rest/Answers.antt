@@ -1,4 +1,4 @@
--- `couples_walk::write_rest` goes on with a walk, from whichever cell it came, to its count. The measure is what is left to write.
+-- `couples_walk::write_rest` goes on with a walk, from whichever cell it came, to its count.
 use native.Mathlib.Omega.{arith}
 use Rattle.laws.specs.Resting.{rest_first, rest_next, rest_all}
 use Rattle.couples_walk.proofs.write_rest.Goals as goal
@@ -17,12 +17,6 @@ bounds-out-i c = omega (arith, c.loop-i.invariant.room, c.loop-i-test.true)
 
 pub next-at-requires : goal.next-at-requires
 next-at-requires c = c.loop-i.invariant.within
-
-pub overflow_add-i : goal.overflow_add-i
-overflow_add-i c = omega (arith, c.loop-i-test.true)
-
-pub loop-i-smaller : goal.loop-i-smaller
-loop-i-smaller c = omega (arith, c.loop-i-test.true)
 
 pub loop-i-preserved : goal.loop-i-preserved
 loop-i-preserved c = rest_next c.loop-i.invariant c.loop-i-test.true c.next-at.ensures.step_of c.next-at.ensures.spot_in

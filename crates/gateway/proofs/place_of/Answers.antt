@@ -41,8 +41,8 @@ offset_of-offset-requires c =
     let h = rw c.machines_in.ensures.0 at c.if-v-machines_in.false in
     ap length (c.entry_at-entry.ensures ∙ the_entry _ _) ∙ entry_long z _ h
 
-pub length_of-length-requires : goal.length_of-length-requires
-length_of-length-requires c =
+pub length_of-long-requires : goal.length_of-long-requires
+length_of-long-requires c =
     let t = passes c.well_formed-2.ensures (ap not c.if-not-well_formed.false) in
     let z = (formed_exactly c.args.store.now).0 t in
     let h = rw c.machines_in.ensures.0 at c.if-v-machines_in.false in
@@ -54,4 +54,4 @@ returns c =
     let z = (formed_exactly c.args.store.now).0 t in
     let h = rw c.machines_in.ensures.0 at c.if-v-machines_in.false in
     let e = c.entry_at-entry.ensures ∙ the_entry _ _ in
-    rw (t, lt-ltb _ _ h) (ap₂ (λ (o n : ℕ). done (record { offset = o; long = n })) (c.offset_of-offset.ensures.0 ∙ ap offset_of e) (c.length_of-length.ensures.0 ∙ ap length_of e))
+    rw (t, lt-ltb _ _ h) (ap₂ (λ (o n : ℕ). done (record { offset = o; long = n })) (c.offset_of-offset.ensures.0 ∙ ap offset_of e) (c.length_of-long.ensures.0 ∙ ap length_of e))

@@ -6,35 +6,35 @@ use Rattle.laws.specs.Parts.{length_part}
 use Rattle.gateway_form.specs.Testing.{fits_low, testing_first, testing_end, entry_bad, share_apart, testing_more}
 use Rattle.gateway_form.proofs.entries_fit.Goals as goal
 
-pub loop-i-init : goal.loop-i-init
-loop-i-init c = testing_first _ _ c.requires.0
+pub loop-init : goal.loop-init
+loop-init c = testing_first _ _ c.requires.0
 
 pub entry_at-entry-requires : goal.entry_at-entry-requires
-entry_at-entry-requires c = omega (arith, c.loop-i.invariant.place, c.requires.1, c.loop-i-test.true)
+entry_at-entry-requires c = omega (arith, c.loop.invariant.place, c.requires.1, c.loop-test.true)
 
 pub entry_fits-requires : goal.entry_fits-requires
-entry_fits-requires c = (ap length c.entry_at-entry.ensures ∙ length_part c.loop-i.at 224 c.args.store.now (omega (arith, c.loop-i.invariant.place, c.requires.1, c.loop-i-test.true)), c.limits_of-dvb.ensures, c.limits_of-atsc.ensures)
+entry_fits-requires c = (ap length c.entry_at-entry.ensures ∙ length_part c.loop.at 224 c.args.store.now (omega (arith, c.loop.invariant.place, c.requires.1, c.loop-test.true)), c.limits_of-dvb.ensures, c.limits_of-atsc.ensures)
 
 pub returns-then-not-entry_fits : goal.returns-then-not-entry_fits
-returns-then-not-entry_fits c = entry_bad c.loop-i.invariant c.loop-i-test.true c.entry_at-entry.ensures (sym c.entry_fits.ensures ∙ c.if-not-entry_fits.true)
+returns-then-not-entry_fits c = entry_bad c.loop.invariant c.loop-test.true c.entry_at-entry.ensures (sym c.entry_fits.ensures ∙ c.if-not-entry_fits.true)
 
 pub offset_of-requires : goal.offset_of-requires
-offset_of-requires c = ap length c.entry_at-entry.ensures ∙ length_part c.loop-i.at 224 c.args.store.now (omega (arith, c.loop-i.invariant.place, c.requires.1, c.loop-i-test.true))
+offset_of-requires c = ap length c.entry_at-entry.ensures ∙ length_part c.loop.at 224 c.args.store.now (omega (arith, c.loop.invariant.place, c.requires.1, c.loop-test.true))
 
 pub returns-then-offset_of-share : goal.returns-then-offset_of-share
-returns-then-offset_of-share c = share_apart c.loop-i.invariant c.loop-i-test.true c.entry_at-entry.ensures (λ q. c.if-offset_of-share.true (c.offset_of.ensures.0 ∙ q))
+returns-then-offset_of-share c = share_apart c.loop.invariant c.loop-test.true c.entry_at-entry.ensures (λ q. c.if-offset_of-share.true (c.offset_of.ensures.0 ∙ q))
 
 pub length_of-share-requires : goal.length_of-share-requires
-length_of-share-requires c = ap length c.entry_at-entry.ensures ∙ length_part c.loop-i.at 224 c.args.store.now (omega (arith, c.loop-i.invariant.place, c.requires.1, c.loop-i-test.true))
+length_of-share-requires c = ap length c.entry_at-entry.ensures ∙ length_part c.loop.at 224 c.args.store.now (omega (arith, c.loop.invariant.place, c.requires.1, c.loop-test.true))
 
-pub overflow_add-share-in-loop-i : goal.overflow_add-share-in-loop-i
-overflow_add-share-in-loop-i c = omega (arith, c.loop-i.invariant.small, c.loop-i-test.true, c.requires.0, c.length_of-share.ensures.0, fits_low _ (sym c.entry_fits.ensures ∙ c.if-not-entry_fits.false))
+pub overflow_add-share-in-loop : goal.overflow_add-share-in-loop
+overflow_add-share-in-loop c = omega (arith, c.loop.invariant.small, c.loop-test.true, c.requires.0, c.length_of-share.ensures.0, fits_low _ (sym c.entry_fits.ensures ∙ c.if-not-entry_fits.false))
 
 pub overflow_add-at : goal.overflow_add-at
-overflow_add-at c = omega (arith, c.loop-i.invariant.place, c.loop-i-test.true, c.requires.0)
+overflow_add-at c = omega (arith, c.loop.invariant.place, c.loop-test.true, c.requires.0)
 
-pub loop-i-preserved : goal.loop-i-preserved
-loop-i-preserved c = testing_more c.loop-i.invariant c.loop-i-test.true c.entry_at-entry.ensures (sym c.entry_fits.ensures ∙ c.if-not-entry_fits.false) (sym c.offset_of.ensures.0 ∙ c.if-offset_of-share.false) c.length_of-share.ensures.0
+pub loop-preserved : goal.loop-preserved
+loop-preserved c = testing_more c.loop.invariant c.loop-test.true c.entry_at-entry.ensures (sym c.entry_fits.ensures ∙ c.if-not-entry_fits.false) (sym c.offset_of.ensures.0 ∙ c.if-offset_of-share.false) c.length_of-share.ensures.0
 
 pub returns : goal.returns
-returns c = testing_end c.loop-i.invariant c.loop-i-test.false
+returns c = testing_end c.loop.invariant c.loop-test.false

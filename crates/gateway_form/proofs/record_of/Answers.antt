@@ -7,21 +7,20 @@ use mathlib.Core.Path.{◌≡◌, ap, ◌∙◌}
 use Prim.Native.Nat.{◌+◌, ◌*◌}
 use Rattle.gateway_form.proofs.record_of.Goals as goal
 
-pub loop-x-init : goal.loop-x-init
-loop-x-init c = (omega arith, omega arith, filled_none _ _ _)
+pub loop-place-init : goal.loop-place-init
+loop-place-init c = (omega arith, filled_none _ _ _)
 
-pub loop-x-preserved : goal.loop-x-preserved
-loop-x-preserved c =
-    let x = c.loop-x.x in
-    let inv = c.loop-x.invariant in (
-      omega arith,
-      omega (arith, inv.1),
-      filled_more _ _ _ _ _ _ inv.2 (omega arith) (c.number_at.ensures ∙ ap (number_at _) (let q : c.loop-x.at ≡ 20 + 4 * (0 + x) = omega (arith, inv.1) in q)),
+pub loop-place-preserved : goal.loop-place-preserved
+loop-place-preserved c =
+    let x = c.loop-place.place-index in
+    let inv = c.loop-place.invariant in (
+      omega (arith, inv.0),
+      filled_more _ _ _ _ _ _ inv.1 (omega arith) (c.number_at.ensures ∙ ap (number_at _) (let q : c.loop-place.at ≡ 20 + 4 * (0 + x) = omega (arith, inv.0) in q)),
     )
 
 pub returns : goal.returns
 unfolding places_of
 returns c =
-    let inv = c.loop-x.invariant in
-    let e : c.loop-x.x ≡ 51 = omega arith in
-    rw (c.number_at-2.ensures, c.number_at-3.ensures, filled_all _ _ _ _ (rw e at inv.2))
+    let inv = c.loop-place.invariant in
+    let e : c.loop-place.place-index ≡ 51 = omega arith in
+    rw (c.number_at-2.ensures, c.number_at-3.ensures, filled_all _ _ _ _ (rw e at inv.1))

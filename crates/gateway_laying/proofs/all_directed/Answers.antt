@@ -3,14 +3,14 @@ use mathlib.Core.Path.{sym, ◌∙◌}
 use Rattle.gateway_laying.specs.Laying.{passing_first, passing_all, passing_more, passing_not}
 use Rattle.gateway_laying.proofs.all_directed.Goals as goal
 
-pub loop-i-init : goal.loop-i-init
-loop-i-init c = passing_first _ _
+pub loop-direction-init : goal.loop-direction-init
+loop-direction-init c = passing_first _ _
 
 pub returns-then-not-is_direction : goal.returns-then-not-is_direction
-returns-then-not-is_direction c = sym (passing_not c.loop-i.invariant c.loop-i-test.true (sym c.is_direction.ensures ∙ c.if-not-is_direction.true))
+returns-then-not-is_direction c = sym (passing_not c.loop-direction.invariant c.loop-direction-test.true (sym c.is_direction.ensures ∙ c.if-not-is_direction.true))
 
-pub loop-i-preserved : goal.loop-i-preserved
-loop-i-preserved c = passing_more c.loop-i.invariant c.loop-i-test.true (sym c.is_direction.ensures ∙ c.if-not-is_direction.false)
+pub loop-direction-preserved : goal.loop-direction-preserved
+loop-direction-preserved c = passing_more c.loop-direction.invariant c.loop-direction-test.true (sym c.is_direction.ensures ∙ c.if-not-is_direction.false)
 
 pub returns : goal.returns
-returns c = sym (passing_all c.loop-i.invariant c.loop-i-test.false)
+returns c = sym (passing_all c.loop-direction.invariant c.loop-direction-test.false)

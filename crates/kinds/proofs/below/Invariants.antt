@@ -1,10 +1,6 @@
 -- The invariant: ok tells whether the places below i are below their limits, and most is the limit of place i.
-use Prim.Native.Nat.{◌-◌}
 use Rattle.kinds.specs.Judging.{Judging}
 use Rattle.kinds.proofs.below.Given as goal
 
 abbrev pub invariant-loop-i : goal.invariant-loop-i
 invariant-loop-i l = Judging l.places l.from l.to l.limit l.step l.ok l.most l.i
-
-abbrev pub decreases-loop-i : goal.decreases-loop-i
-decreases-loop-i l = l.to - l.i

@@ -1,19 +1,26 @@
--- `quadratic_sets::address` is the set's L or M: the leaf's, at the set's K, f1 and f2.
+-- `quadratic_sets::address` is the set's L or M: the leaf's, at the set's block.
 use mathlib.Core.Path.{◌∙◌}
 use Rattle.laws.specs.declared.Way.TheVariants.{Interleaver, Deinterleaver}
-use Rattle.families.specs.Families.{quadratic_whole, quadratic_rule_lem, one_in}
+use Rattle.families.specs.Families.{quadratic_whole, quadratic_k, quadratic_rule_lem, one_in}
 use Rattle.quadratic_sets.proofs.address.Goals as goal
 
 pub address_of-requires : goal.address_of-requires
-address_of-requires c = let p = c.requires in (quadratic_whole p.0, p.1)
+address_of-requires c =
+    let p = c.requires in
+    let e = c.block_of-q.ensures in
+    (quadratic_whole p.0 e, rw (quadratic_k p.0 e) p.1)
 
 pub place_of-requires : goal.place_of-requires
-place_of-requires c = quadratic_whole c.requires.0
+place_of-requires c = quadratic_whole c.requires.0 c.block_of-q.ensures
 
 pub returns-in-Interleaver : goal.returns-in-Interleaver
 returns-in-Interleaver c =
-    c.address_of.ensures ∙ one_in _ (quadratic_rule_lem c.requires.0) Interleaver c.in-Interleaver.is _
+    let p = c.requires.0 in
+    let e = c.block_of-q.ensures in
+    c.address_of.ensures ∙ one_in _ (quadratic_k p e) (quadratic_rule_lem p e) Interleaver c.in-Interleaver.is _
 
 pub returns-in-Deinterleaver : goal.returns-in-Deinterleaver
 returns-in-Deinterleaver c =
-    c.place_of.ensures ∙ one_in _ (quadratic_rule_lem c.requires.0) Deinterleaver c.in-Deinterleaver.is _
+    let p = c.requires.0 in
+    let e = c.block_of-q.ensures in
+    c.place_of.ensures ∙ one_in _ (quadratic_k p e) (quadratic_rule_lem p e) Deinterleaver c.in-Deinterleaver.is _

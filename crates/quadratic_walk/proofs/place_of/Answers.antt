@@ -1,5 +1,6 @@
--- `quadratic_walk::place_of` is M: the walk stops at the address. The measure is what is left of the block.
+-- `quadratic_walk::place_of` is M: the walk stops at the address.
 use mathlib.Core.Path.{sym, ◌∙◌}
+use native.Mathlib.Nat.{le_antisymm}
 use native.Mathlib.Omega.{arith}
 use Rattle.laws.specs.Seek.{seek_first, seek_here, seek_next, seek_end}
 use Rattle.quadratic.specs.Formula.{quadratic_m}
@@ -24,12 +25,6 @@ returns-then-at-a c =
 pub next-at-requires : goal.next-at-requires
 next-at-requires c = let g = c.loop-t.invariant in ready_in g.kept g.state
 
-pub overflow_add-t : goal.overflow_add-t
-overflow_add-t c = omega (arith, c.loop-t-test.true, c.loop-t.invariant.kept.whole.small)
-
-pub loop-t-smaller : goal.loop-t-smaller
-loop-t-smaller c = omega (arith, c.loop-t-test.true)
-
 pub loop-t-preserved : goal.loop-t-preserved
 loop-t-preserved c =
     let g = c.loop-t.invariant in
@@ -38,4 +33,5 @@ loop-t-preserved c =
 
 pub returns : goal.returns
 unfolding quadratic_m
-returns c = seek_end c.loop-t.invariant c.loop-t-test.false
+returns c =
+    sym (le_antisymm c.loop-t.invariant.far c.loop-t-test.false) ∙ seek_end c.loop-t.invariant c.loop-t-test.false

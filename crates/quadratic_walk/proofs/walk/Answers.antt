@@ -3,12 +3,12 @@ use Rattle.laws.specs.Leaves.{leaf_past, ran_leaf}
 use Rattle.quadratic.proofs.Law.{address_below}
 use Rattle.quadratic_walk.proofs.walk.Goals as goal
 
-pub returns-then-cell-k : goal.returns-then-cell-k
-returns-then-cell-k c = leaf_past c.if-cell-k.true
+pub returns-then-cell-q : goal.returns-then-cell-q
+returns-then-cell-q c = leaf_past c.if-cell-q.true
 
 pub write-count-requires : goal.write-count-requires
-write-count-requires c = record { whole = c.requires; cell_in = c.if-cell-k.false }
+write-count-requires c = record { whole = c.requires; cell_in = c.if-cell-q.false }
 
 pub returns : goal.returns
 returns c =
-    ran_leaf (λ x h. address_below _ _ _ c.requires.size x) c.if-cell-k.false c.write-count.ensures
+    ran_leaf (λ x h. address_below _ _ _ c.requires.size x) c.if-cell-q.false c.write-count.ensures

@@ -1,4 +1,4 @@
--- `quadratic_walk::write_rest` goes on with a walk, whichever it is, to its count. The measure is what is left to write.
+-- `quadratic_walk::write_rest` goes on with a walk, whichever it is, to its count.
 use native.Mathlib.Omega.{arith}
 use Rattle.laws.specs.Resting.{rest_first, rest_next, rest_all}
 use Rattle.quadratic_walk.specs.Spot.{step_of}
@@ -18,12 +18,6 @@ bounds-out-i c = omega (arith, c.loop-i.invariant.room, c.loop-i-test.true)
 
 pub next-at-requires : goal.next-at-requires
 next-at-requires c = c.loop-i.invariant.within
-
-pub overflow_add-i : goal.overflow_add-i
-overflow_add-i c = omega (arith, c.loop-i-test.true)
-
-pub loop-i-smaller : goal.loop-i-smaller
-loop-i-smaller c = omega (arith, c.loop-i-test.true)
 
 pub loop-i-preserved : goal.loop-i-preserved
 loop-i-preserved c =

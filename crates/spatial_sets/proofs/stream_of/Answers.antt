@@ -7,4 +7,4 @@ use Rattle.spatial_sets.proofs.stream_of.Goals as goal
 pub returns : goal.returns
 returns c =
     let s = c.args.set in
-    ap₂ (λ (x : Numbers) (g : ℕ). record { d = x.d; n = s.n; s = g; bits = s.bits; r = x.r; stream = s.stream }) c.numbers_of-numbers.ensures c.group_of.ensures.value
+    ap₂ (λ (x : Numbers) (g : ℕ). record { steps = record { d = x.d; n = s.n; s = g }; bits = s.bits; r = x.r; stream = s.stream }) c.numbers_of-numbers.ensures c.group_of.ensures.value

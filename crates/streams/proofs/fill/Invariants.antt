@@ -1,12 +1,6 @@
--- The invariant: the first i bytes are f, the others as they were.
-use Prim.Native.Nat.{◌≤◌, ◌-◌}
-use mathlib.Core.Path.{◌≡◌}
-use mathlib.Core.List.{◌++◌}
-use lib.ListN.{length, replicate, drop}
+-- The invariant: the first bytes, up to the loop's own, are f, and the others as they were.
+use Rattle.std.specs.Prelude.{◌≡◌, ◌++◌, length, replicate, drop}
 use Rattle.streams.proofs.fill.Given as goal
 
-abbrev pub invariant-loop-i : goal.invariant-loop-i
-invariant-loop-i l = (l.i ≤ length l.initial.store) × (l.store ≡ replicate l.i l.f ++ drop l.i l.initial.store) × (length l.store ≡ length l.initial.store)
-
-abbrev pub decreases-loop-i : goal.decreases-loop-i
-decreases-loop-i l = length l.initial.store - l.i
+abbrev pub invariant-loop-byte : goal.invariant-loop-byte
+invariant-loop-byte l = l.store ≡ replicate l.byte-index l.f ++ drop l.byte-index l.initial.store

@@ -70,12 +70,6 @@ bounds-places-x c = let g = c.loop-x.invariant in let h = c.loop-x-test.true in 
 pub overflow_add-size : goal.overflow_add-size
 overflow_add-size c = let g = c.loop-x.invariant in let h = c.loop-x-test.true in omega (arith, ring_short g h, g.sized.short)
 
-pub overflow_add-x : goal.overflow_add-x
-overflow_add-x c = let g = c.loop-x.invariant in let h = c.loop-x-test.true in omega (arith, g.sized.few, h)
-
-pub loop-x-smaller : goal.loop-x-smaller
-loop-x-smaller c = omega (arith, c.loop-x-test.true)
-
 pub loop-x-preserved : goal.loop-x-preserved
 loop-x-preserved c =
     let g = c.loop-x.invariant in

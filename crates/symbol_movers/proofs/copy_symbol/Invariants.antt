@@ -1,12 +1,7 @@
--- `symbol_movers::copy_symbol` copies `width` bytes. The loop's invariant: the first i are copied; the measure is what is left.
-use mathlib.Core.Path.{◌≡◌}
-use Prim.Native.Nat.{◌-◌, ◌≤◌}
-use lib.ListN.{length, drop}
-use lib.Seq.{paste}
+-- `symbol_movers::copy_symbol` copies `width` bytes. The loop's invariant: the first i are copied.
+use Rattle.std.proofs.Common.{◌≡◌, drop}
+use Rattle.std.proofs.Math.Seq.{paste}
 use Rattle.symbol_movers.proofs.copy_symbol.Given as goal
 
 abbrev pub invariant-loop-i : goal.invariant-loop-i
-invariant-loop-i l = (length l.dst ≡ length l.initial.dst) × (l.i ≤ l.width) × (l.dst ≡ paste l.initial.dst l.to (drop l.from l.src) l.i)
-
-abbrev pub decreases-loop-i : goal.decreases-loop-i
-decreases-loop-i l = l.width - l.i
+invariant-loop-i l = l.dst ≡ paste l.initial.dst l.to (drop l.from l.src) l.i

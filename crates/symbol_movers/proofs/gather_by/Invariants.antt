@@ -1,10 +1,6 @@
--- `symbol_movers::gather_by` gathers whole symbols by the table. The loop's invariant: the first t are in place; the measure is what is left.
-use Prim.Native.Nat.{◌-◌}
+-- `symbol_movers::gather_by` gathers whole symbols by the table. The loop's invariant: the first t are in place.
 use Rattle.symbol_movers.specs.Grouped.{GatheredSymbols}
 use Rattle.symbol_movers.proofs.gather_by.Given as goal
 
 abbrev pub invariant-loop-t : goal.invariant-loop-t
 invariant-loop-t l = GatheredSymbols l.table l.n l.width l.src l.initial.dst l.dst l.t l.to
-
-abbrev pub decreases-loop-t : goal.decreases-loop-t
-decreases-loop-t l = l.n - l.t

@@ -34,7 +34,7 @@ bounds-base-i c = row_small c.requires
 
 pub overflow_add-a : goal.overflow_add-a
 overflow_add-a c =
-    let here_is : get_or c.args.base.now c.args.i 0 + c.entry_at-u.result ≡ plain c.args.shape.k (c.args.j * rows c.args.shape.k + c.args.i) = address_is c.requires c.wide16.result c.entry_at-u.result c.wide16.ensures c.entry_at-u.ensures in
+    let here_is : get_or c.args.base.now c.args.i 0 + c.entry_at-u.result ≡ plain c.args.shape.k (c.args.j * rows c.args.shape.k + c.args.i) = address_is c.requires _ c.entry_at-u.result refl c.entry_at-u.ensures in
     let z = c.requires in omega (arith, here_is, plain_lt c.args.shape.k (c.args.j * rows c.args.shape.k + c.args.i) (cell_inside z), cells_le c.args.shape.k)
 
 pub offset_bounds-fall-i : goal.offset_bounds-fall-i
@@ -61,7 +61,7 @@ overflow_cast-out c = let z = c.requires.shape.size.high in omega arith
 pub returns-then-a-k : goal.returns-then-a-k
 returns-then-a-k c =
     let next_exponents : Exponents c.args.shape.k (c.args.i + 1) c.args.j (set c.args.e.now c.args.i c.next_exponent.result) = let z = c.requires in exponents_down _ z.exponents z.row c.next_exponent.result (raised_is z c.next_exponent.result c.next_exponent.ensures) in
-    let here_is : get_or c.args.base.now c.args.i 0 + c.entry_at-u.result ≡ plain c.args.shape.k (c.args.j * rows c.args.shape.k + c.args.i) = address_is c.requires c.wide16.result c.entry_at-u.result c.wide16.ensures c.entry_at-u.ensures in
+    let here_is : get_or c.args.base.now c.args.i 0 + c.entry_at-u.result ≡ plain c.args.shape.k (c.args.j * rows c.args.shape.k + c.args.i) = address_is c.requires _ c.entry_at-u.result refl c.entry_at-u.ensures in
     let z = c.requires in
     record {
       exponents = next_exponents;
@@ -73,7 +73,7 @@ returns-then-a-k c =
 pub returns : goal.returns
 returns c =
     let next_exponents : Exponents c.args.shape.k (c.args.i + 1) c.args.j (set c.args.e.now c.args.i c.next_exponent.result) = let z = c.requires in exponents_down _ z.exponents z.row c.next_exponent.result (raised_is z c.next_exponent.result c.next_exponent.ensures) in
-    let here_is : get_or c.args.base.now c.args.i 0 + c.entry_at-u.result ≡ plain c.args.shape.k (c.args.j * rows c.args.shape.k + c.args.i) = address_is c.requires c.wide16.result c.entry_at-u.result c.wide16.ensures c.entry_at-u.ensures in
+    let here_is : get_or c.args.base.now c.args.i 0 + c.entry_at-u.result ≡ plain c.args.shape.k (c.args.j * rows c.args.shape.k + c.args.i) = address_is c.requires _ c.entry_at-u.result refl c.entry_at-u.ensures in
     let z = c.requires in
     record {
       exponents = next_exponents;

@@ -15,13 +15,13 @@ use Rattle.wcdma_powers.proofs.powers.Goals as goal
 
 pub loop-x-init : goal.loop-x-init
 unfolding power
-loop-x-init c = (omega arith, c.requires.long, omega (arith, c.requires.root.big), refl, below_none _)
+loop-x-init c = (c.requires.long, omega (arith, c.requires.root.big), refl, below_none _)
 
 pub overflow_sub-s : goal.overflow_sub-s
-overflow_sub-s c = let l = c.loop-x in omega (arith, l.invariant.3, power_pos c.requires.root l.x, c.requires.least)
+overflow_sub-s c = let l = c.loop-x in omega (arith, l.invariant.2, power_pos c.requires.root l.x, c.requires.least)
 
 pub overflow_cast-s : goal.overflow_cast-s
-overflow_cast-s c = let l = c.loop-x in omega (arith, l.invariant.2, c.requires.small)
+overflow_cast-s c = let l = c.loop-x in omega (arith, l.invariant.1, c.requires.small)
 
 pub offset_bounds-s-x : goal.offset_bounds-s-x
 offset_bounds-s-x c = omega (arith, c.loop-x-test.true, c.requires.small)
@@ -30,10 +30,7 @@ pub bounds-s-x : goal.bounds-s-x
 bounds-s-x c = omega (arith, c.loop-x-test.true, c.requires.small)
 
 pub next_power-last-requires : goal.next_power-last-requires
-next_power-last-requires c = let z = c.requires in record { big = z.root.big; small = z.small; six = z.root.six; below = c.loop-x.invariant.2 }
-
-pub overflow_add-x : goal.overflow_add-x
-overflow_add-x c = omega (arith, c.loop-x-test.true, c.requires.small)
+next_power-last-requires c = let z = c.requires in record { big = z.root.big; small = z.small; six = z.root.six; below = c.loop-x.invariant.1 }
 
 pub loop-x-preserved : goal.loop-x-preserved
 loop-x-preserved c =
@@ -41,12 +38,11 @@ loop-x-preserved c =
     let e = c.next_power-last.ensures in
     let a = c.args in
     let z = c.requires in (
-      omega (arith, c.loop-x-test.true),
-      simp length-set l.invariant.1,
+      simp length-set l.invariant.0,
       rw e (mod-lt _ (omega (arith, z.root.big))),
-      e ∙ power_next _ _ l.x l.last l.invariant.3,
+      e ∙ power_next _ _ l.x l.last l.invariant.2,
       fill_more (λ y. power a.p a.v y - a.less) l.s l.x (l.last - a.less)
-          (omega (arith, l.invariant.1, c.loop-x-test.true, z.small)) (ap (λ (y : ℕ). y - a.less) l.invariant.3) l.invariant.4,
+          (omega (arith, l.invariant.0, c.loop-x-test.true, z.small)) (ap (λ (y : ℕ). y - a.less) l.invariant.2) l.invariant.3,
     )
 
 pub overflow_sub-p : goal.overflow_sub-p
@@ -66,11 +62,11 @@ second_half-requires c =
       room = omega (arith, z.small);
       small = omega (arith, z.small);
       low = λ x h.
-          omega (arith, l.invariant.4 x (omega (arith, c.loop-x-test.false)), power_lt z.root x, z.least);
-      long = l.invariant.1;
+          omega (arith, l.invariant.3 x (omega (arith, c.loop-x-test.false)), power_lt z.root x, z.least);
+      long = l.invariant.0;
     }
 
 pub returns : goal.returns
 returns c =
     let l = c.loop-x in
-    both_halves c.requires (λ x h. l.invariant.4 x (omega (arith, c.loop-x-test.false))) c.second_half.ensures
+    both_halves c.requires (λ x h. l.invariant.3 x (omega (arith, c.loop-x-test.false))) c.second_half.ensures

@@ -1,7 +1,7 @@
 -- `lay_out` lays out the rows. The invariant: the rows below x are laid out.
 use Prim.Native.Nat.{◌%◌, ◌*◌, ◌-◌, ◌<◌}
 use lib.ListN.{length-set}
-use mathlib.Core.Path.{◌∙◌}
+use mathlib.Core.Path.{refl}
 use native.Mathlib.Nat.{le_of_lt, mod-lt}
 use native.Mathlib.Omega.{arith}
 use Rattle.laws.specs.Entries.{fill_more}
@@ -47,8 +47,8 @@ offset_bounds-base-x c = omega (arith, rows_le c.args.shape.k, c.requires.shape.
 pub bounds-base-x : goal.bounds-base-x
 bounds-base-x c = omega (arith, rows_le c.args.shape.k, c.requires.shape.rows_is)
 
-pub overflow_sub-m-in-loop-x : goal.overflow_sub-m-in-loop-x
-overflow_sub-m-in-loop-x c = let o : 0 < c.args.shape.p - 1 = omega (arith, prime_big c.args.shape.k, c.requires.shape.prime_is) in le_of_lt (mod-lt _ (omega arith))
+pub overflow_sub-fall : goal.overflow_sub-fall
+overflow_sub-fall c = let o : 0 < c.args.shape.p - 1 = omega (arith, prime_big c.args.shape.k, c.requires.shape.prime_is) in le_of_lt (mod-lt _ (omega arith))
 
 pub offset_bounds-fall-x : goal.offset_bounds-fall-x
 offset_bounds-fall-x c = omega (arith, rows_le c.args.shape.k, c.requires.shape.rows_is)
@@ -76,13 +76,12 @@ loop-x-preserved c =
     let ec = g.shape.cols_is in
     let eq = g.numbers l.x h in
     let k = a.shape.k in (
-      omega (arith, c.loop-x-test.true),
+      simp length-set l.invariant.0,
       simp length-set l.invariant.1,
       simp length-set l.invariant.2,
-      simp length-set l.invariant.3,
-      fill_more (λ y. row_at k y * cols k) l.base l.x _ (omega (arith, o, l.invariant.1)) (rw (c.row_at-t.ensures, ec)) l.invariant.4,
-      fill_more (λ y. prime k - 1 - q_of (prime k - 1) y % (prime k - 1)) l.fall l.x _ (omega (arith, o, l.invariant.2))
-          (fall_is c.wide32.ensures eq ep) l.invariant.5,
-      fill_more (λ y. next_col a.i a.j y * q_of (prime k - 1) y % (prime k - 1)) l.at l.x _ (omega (arith, o, l.invariant.3))
-          (start_is (next_col a.i a.j l.x) (c.wide32-in-loop-x.ensures ∙ c.first_exponent.ensures) eq ep) l.invariant.6,
+      fill_more (λ y. row_at k y * cols k) l.base l.x _ (omega (arith, o, l.invariant.0)) (rw (c.row_at-t.ensures, ec)) l.invariant.3,
+      fill_more (λ y. prime k - 1 - q_of (prime k - 1) y % (prime k - 1)) l.fall l.x _ (omega (arith, o, l.invariant.1))
+          (fall_is refl eq ep) l.invariant.4,
+      fill_more (λ y. next_col a.i a.j y * q_of (prime k - 1) y % (prime k - 1)) l.at l.x _ (omega (arith, o, l.invariant.2))
+          (start_is (next_col a.i a.j l.x) c.first_exponent.ensures eq ep) l.invariant.5,
     )

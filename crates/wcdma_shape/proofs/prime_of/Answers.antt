@@ -1,5 +1,5 @@
 -- `prime_of` is p.
-use mathlib.Core.Path.{sym, ◌∙◌}
+use mathlib.Core.Path.{refl, sym, ◌∙◌}
 use native.Mathlib.Omega.{arith}
 use Rattle.wcdma_shape.proofs.Cases.{prime_middle, rows_some, seek_first, seek_out, seek_found_p, seek_on}
 use Rattle.wcdma_shape.proofs.prime_of.Goals as goal
@@ -15,11 +15,11 @@ loop-n-init c = seek_first c.requires (sym c.is_within.ensures ∙ c.if-is_withi
 
 pub returns-then-least-p : goal.returns-then-least-p
 returns-then-least-p c =
-    seek_found_p c.requires c.loop-n.invariant c.loop-n-test.true c.wide16-p.ensures c.if-least-p.true
+    seek_found_p c.requires c.loop-n.invariant c.loop-n-test.true refl c.if-least-p.true
 
 pub loop-n-preserved : goal.loop-n-preserved
 loop-n-preserved c =
-    seek_on c.requires c.loop-n.invariant c.loop-n-test.true c.wide16-p.ensures c.if-least-p.false
+    seek_on c.requires c.loop-n.invariant c.loop-n-test.true refl c.if-least-p.false
 
 pub returns : goal.returns
 returns c = sym (seek_out c.requires c.loop-n.invariant c.loop-n-test.false)

@@ -17,7 +17,7 @@ cols_of-c-requires c =
     record {
       size = c.requires;
       rows_is = c.rows_of-r.ensures;
-      prime_is = prime_here c.wide16-p.ensures c.primes_table-list.ensures c.prime_place-n.ensures;
+      prime_is = prime_here refl c.primes_table-list.ensures c.prime_place-n.ensures;
     }
 
 pub returns : goal.returns
@@ -26,7 +26,7 @@ returns c = (
   record {
     size = c.requires;
     rows_is = c.rows_of-r.ensures;
-    prime_is = prime_here c.wide16-p.ensures c.primes_table-list.ensures c.prime_place-n.ensures;
+    prime_is = prime_here refl c.primes_table-list.ensures c.prime_place-n.ensures;
     cols_is = c.cols_of-c.ensures;
     root_is = c.root_at-v.ensures ∙ ap root c.prime_place-n.ensures.prime_is;
   },

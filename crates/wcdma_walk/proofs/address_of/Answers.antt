@@ -15,6 +15,5 @@ pub returns : goal.returns
 returns c =
     let t = c.args.t in
     let long : length c.walk.new.out ≡ t + 1 = c.walk.auto.out ∙ length-take-le (t + 1) _ (omega (arith, c.requires.0.high, c.requires.1)) in
-    c.wide16.ensures
-    ∙ get_or-append c.walk.new.out _ 0 t (omega (arith, long))
+    get_or-append c.walk.new.out _ 0 t (omega (arith, long))
     ∙ holds_l (turbo_lawful c.args.k c.requires.0.high) c.walk.ensures t (omega (arith, c.walk.auto.out, long)) c.requires.1

@@ -8,7 +8,7 @@ pub overflow_add-turn : goal.overflow_add-turn
 overflow_add-turn c = omega (arith, c.requires.col_small, c.requires.place_small)
 
 pub overflow_sub-result : goal.overflow_sub-result
-overflow_sub-result c = mod-le c.args.col c.args.s
+overflow_sub-result c = mod-le c.args.col c.args.b.s
 
 pub overflow_mul-result : goal.overflow_mul-result
 overflow_mul-result c = omega (arith, base_fits c.requires)
@@ -20,4 +20,4 @@ pub overflow_mul-result-2 : goal.overflow_mul-result-2
 overflow_mul-result-2 c = omega (arith, lift_fits c.requires)
 
 pub returns : goal.returns
-returns c = row_new c.args.d c.args.s c.args.row c.args.col
+returns c = row_new c.args.b.d c.args.b.s c.args.row c.args.col

@@ -10,12 +10,12 @@ lift_up-lift-requires c = (c.requires.lift_small, d_small c.requires)
 pub overflow_add-result : goal.overflow_add-result
 overflow_add-result c = let z = c.requires in omega (arith, z.group_is, z.group_small, z.base_small)
 
-pub returns-then-low-s : goal.returns-then-low-s
-returns-then-low-s c = λ row col p.
+pub returns-then-low-b : goal.returns-then-low-b
+returns-then-low-b c = λ row col p.
     let z = c.requires in
-    rw z.group_is (row_over p c.lift_up-lift.result (c.lift_up-lift.ensures _ _ z.d_pos (mod-lt _ z.s_pos) p.lift_is z.top_is) (omega (arith, z.s_pos, c.if-low-s.true)))
+    rw z.group_is (row_over p c.lift_up-lift.result (c.lift_up-lift.ensures _ _ z.d_pos (mod-lt _ z.s_pos) p.lift_is z.top_is) (omega (arith, z.s_pos, c.if-low-b.true)))
 
 pub returns : goal.returns
 returns c = λ row col p.
     let z = c.requires in
-    row_on p c.lift_up-lift.result (c.lift_up-lift.ensures _ _ z.d_pos (mod-lt _ z.s_pos) p.lift_is z.top_is) z.s_pos (λ e. c.if-low-s.false (omega (arith, e)))
+    row_on p c.lift_up-lift.result (c.lift_up-lift.ensures _ _ z.d_pos (mod-lt _ z.s_pos) p.lift_is z.top_is) z.s_pos (λ e. c.if-low-b.false (omega (arith, e)))

@@ -2,5 +2,5 @@
 use mathlib.Core.Path.{refl}
 use Rattle.flat.proofs.records.answered.Goals as goal
 
-pub returns-in-Done : goal.returns-in-Done
-returns-in-Done c = record { number = rw c.in-Done.is (refl); stream = rw c.in-Done.is (c.numbers_of.ensures) }
+pub returns-in-Ok : goal.returns-in-Ok
+returns-in-Ok c = record { number = rw c.in-Ok.is (refl); stream = rw c.in-Ok.is (c.numbers_of.ensures) }

@@ -11,24 +11,24 @@ use Rattle.gateway_form.specs.Form.{stand_bytes}
 use borrow.Author.Rules.{rules}
 use Rattle.gateway_form.proofs.entries.put_stand.Goals as goal
 
-pub loop-x-init : goal.loop-x-init
-loop-x-init c =
+pub loop-place-init : goal.loop-place-init
+loop-place-init c =
     let l : length c.args.s.places ≡ 51 = search rules in
     (storing_first number_bytes _ _ _, omega arith, omega (arith, length-sets c.args.store.now c.args.at (number_bytes c.args.s.branch), ap length c.put_number.ensures), l)
 
-pub loop-x-preserved : goal.loop-x-preserved
-loop-x-preserved c =
-    let inv = c.loop-x.invariant in
-    let h = c.loop-x-test.true in
-    (storing_more number_bytes inv.0 (omega (arith, inv.3, h)) 0 refl c.put_number-in-loop-x.ensures refl, omega (arith, inv.1), inv.2, inv.3)
+pub loop-place-preserved : goal.loop-place-preserved
+loop-place-preserved c =
+    let inv = c.loop-place.invariant in
+    let h = c.loop-place-test.true in
+    (storing_more number_bytes inv.0 (omega (arith, inv.3, h)) 0 refl c.put_number-in-loop-place.ensures refl, omega (arith, inv.1), inv.2, inv.3)
 
 pub shape_of-store : goal.shape_of-store
 shape_of-store c =
-    c.loop-x.invariant.0.size ∙ ap length c.put_number.ensures ∙ length-sets c.args.store.now c.args.at (number_bytes c.args.s.branch)
+    c.loop-place.invariant.0.size ∙ ap length c.put_number.ensures ∙ length-sets c.args.store.now c.args.at (number_bytes c.args.s.branch)
 
 pub returns : goal.returns
 unfolding stand_bytes
 returns c =
-    let inv = c.loop-x.invariant in
-    storing_end number_bytes inv.0 (omega (arith, inv.3, c.loop-x-test.false))
+    let inv = c.loop-place.invariant in
+    storing_end number_bytes inv.0 (omega (arith, inv.3, c.loop-place-test.false))
     ∙ sym (sets_then c.args.store.now c.args.at (c.args.at + 4) (number_bytes c.args.s.branch) (chained number_bytes c.args.s.places) c.put_number.ensures refl)

@@ -10,26 +10,26 @@ overflow_cast-step c = omega (arith, c.of-z.ensures.short)
 pub overflow_sub-rings : goal.overflow_sub-rings
 overflow_sub-rings c = omega (arith, c.of-z.ensures.some)
 
-pub loop-x-init : goal.loop-x-init
-loop-x-init c = limiting_first _
+pub loop-init : goal.loop-init
+loop-init c = limiting_first _
 
 pub overflow_add-limit : goal.overflow_add-limit
 overflow_add-limit c =
     let z = c.of-z.ensures in
     let k = sound c.args.kind in
-    omega (arith, limit_fits c.loop-x.invariant k.few (omega (arith, z.branches)) k.ring, z.step)
+    omega (arith, limit_fits c.loop.invariant k.few (omega (arith, z.branches)) k.ring, z.step)
 
 pub bounds-limits-at : goal.bounds-limits-at
-bounds-limits-at c = omega (arith, c.loop-x.invariant.place, c.of-z.ensures.few)
+bounds-limits-at c = omega (arith, c.loop.invariant.place, c.of-z.ensures.few)
 
-pub loop-x-preserved : goal.loop-x-preserved
-loop-x-preserved c =
+pub loop-preserved : goal.loop-preserved
+loop-preserved c =
     let z = c.of-z.ensures in
     let k = sound c.args.kind in
-    limiting_more c.loop-x.invariant k.few (omega (arith, z.branches)) (omega (arith, z.step))
+    limiting_more c.loop.invariant k.few (omega (arith, z.branches)) (omega (arith, z.step))
 
 pub returns : goal.returns
 returns c =
     let z = c.of-z.ensures in
     let k = sound c.args.kind in
-    limiting_all c.loop-x.invariant k.few (omega (arith, z.branches)) k.some_branches
+    limiting_all c.loop.invariant k.few (omega (arith, z.branches)) k.some_branches

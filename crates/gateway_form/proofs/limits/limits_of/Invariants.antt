@@ -1,11 +1,7 @@
 -- `gateway_form::limits::limits_of`.
 use Rattle.gateway_form.specs.Limits.{Limiting}
 use Rattle.kinds.specs.Kinds.{sizes_of}
-use Prim.Native.Nat.{◌-◌}
 use Rattle.gateway_form.proofs.limits.limits_of.Given as goal
 
-abbrev pub invariant-loop-x : goal.invariant-loop-x
-invariant-loop-x l = Limiting (sizes_of l.kind) l.limits l.limit l.at l.x
-
-abbrev pub decreases-loop-x : goal.decreases-loop-x
-decreases-loop-x l = l.rings - l.x
+abbrev pub invariant-loop : goal.invariant-loop
+invariant-loop l = Limiting (sizes_of l.kind) l.limits l.limit l.at l.counter

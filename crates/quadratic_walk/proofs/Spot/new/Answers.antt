@@ -34,4 +34,4 @@ pub nonzero_rem-result-2 : goal.nonzero_rem-result-2
 nonzero_rem-result-2 c = c.requires.whole.size
 
 pub returns : goal.returns
-returns c = spot_new c.args.k c.args.f1 c.args.f2 c.args.t
+returns c = spot_new c.args.q.k c.args.q.f1 c.args.q.f2 c.args.t

@@ -7,5 +7,5 @@ use Rattle.report_pages.proofs.taken.take.Goals as goal
 pub returns : goal.returns
 returns c =
     let l = c.loop-at in
-    let e : l.at ≡ 10 = omega (arith, l.invariant.0.few, c.loop-at-test.false) in
-    (l.invariant.0, rw e (ten_settle l.room l.invariant.1))
+    let e : l.at ≡ 10 = omega (arith, l.auto.at-end) in
+    (rw e at l.invariant.0, ten_settle l.room l.invariant.1)

@@ -1,5 +1,4 @@
 -- `take` keeps no byte behind bytes that settle it, and ends where they do, or where standard input ends.
-use Prim.Native.Nat.{◌-◌}
 use mathlib.Core.Path.{◌≡◌}
 use lib.ListN.{length}
 use Rattle.report_pages.specs.Taken.{Read}
@@ -7,6 +6,3 @@ use Rattle.report_pages.proofs.taken.take.Given as goal
 
 abbrev pub invariant-loop-at : goal.invariant-loop-at
 invariant-loop-at l = Read l.room l.at × (length l.room ≡ 10)
-
-abbrev pub decreases-loop-at : goal.decreases-loop-at
-decreases-loop-at l = 10 - l.at

@@ -5,4 +5,4 @@ use Rattle.report_pages.proofs.text.field.Goals as goal
 
 pub returns : goal.returns
 unfolding field_text
-returns c = put_join (number_put c.put_number-at.ensures) c.put.ensures
+returns c = put_join (number_put c.put_number.ensures) c.put.ensures

@@ -5,4 +5,4 @@ use Rattle.report_pages.proofs.text.put_refusal.Goals as goal
 
 pub returns : goal.returns
 unfolding refusal_text
-returns c = put_join c.put-at.ensures c.field.ensures
+returns c = put_join c.put.ensures c.field.ensures

@@ -6,4 +6,4 @@ use Rattle.report_pages.proofs.text.put_report.Goals as goal
 pub returns : goal.returns
 unfolding report_text head_text
 returns c =
-    put_join c.put-head.ensures (put_join c.rows-lines.ensures c.total_of.ensures)
+    put_join c.put.ensures (put_join c.rows.ensures c.total_of.ensures)

@@ -6,4 +6,4 @@ use Rattle.report_pages.proofs.text.row.Goals as goal
 pub returns : goal.returns
 unfolding row_text
 returns c =
-    put_join c.field-k.ensures (put_join c.field-r.ensures (put_join c.field-c.ensures (put_join c.field-cells.ensures c.field.ensures)))
+    put_join c.field.ensures (put_join c.field-2.ensures (put_join c.field-3.ensures (put_join c.field-4.ensures c.field-5.ensures)))

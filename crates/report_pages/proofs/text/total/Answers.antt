@@ -6,4 +6,4 @@ use Rattle.report_pages.proofs.text.total.Goals as goal
 pub returns : goal.returns
 unfolding total_text
 returns c =
-    put_join c.put-at.ensures (put_join c.field-sizes.ensures (put_join c.field-cells.ensures c.field.ensures))
+    put_join c.put.ensures (put_join c.field.ensures (put_join c.field-2.ensures c.field-3.ensures))

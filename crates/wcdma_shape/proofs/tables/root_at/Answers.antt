@@ -6,7 +6,7 @@ use lib.Dec.{eqb}
 use lib.ListN.{get_or}
 use mathlib.Core.Bool.{Bool, true}
 use mathlib.Core.List.{List, [], ◌∷◌}
-use mathlib.Core.Path.{◌∙◌, ◌≡◌, refl}
+use mathlib.Core.Path.{◌≡◌, refl}
 use native.Mathlib.Omega.{arith}
 use Rattle.laws.specs.Span.{at_number, span}
 use Rattle.wcdma_shape.specs.Powers.{first_one, generates, root, root_from}
@@ -34,4 +34,4 @@ roots_at n h = eqb-true (get_or roots n 0) (root (get_or primes n 0)) (at_number
 
 pub returns : goal.returns
 unfolding roots
-returns c = c.wide.ensures ∙ roots_at c.args.n (search rules)
+returns c = roots_at c.args.n (search rules)

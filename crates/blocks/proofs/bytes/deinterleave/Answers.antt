@@ -1,5 +1,0 @@
--- `blocks::bytes::deinterleave` is the call of its way.
-use Rattle.blocks.proofs.bytes.deinterleave.Goals as goal
-
-pub returns : goal.returns
-returns c = record { answer = c.move_block.ensures.answer; output = c.move_block.ensures.output }

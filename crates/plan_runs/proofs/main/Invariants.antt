@@ -1,9 +1,0 @@
--- `plan_runs::main` ends: the arguments that are left fall.
-use Prim.Native.Nat.{◌-◌}
-use Rattle.plan_runs.proofs.main.Given as goal
-
-abbrev pub invariant-loop-i : goal.invariant-loop-i
-invariant-loop-i l = Unit {0}
-
-abbrev pub decreases-loop-i : goal.decreases-loop-i
-decreases-loop-i l = l.n - l.i

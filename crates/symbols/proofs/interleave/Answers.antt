@@ -1,5 +1,0 @@
--- `symbols::interleave` is the call of its way.
-use Rattle.symbols.proofs.interleave.Goals as goal
-
-pub returns : goal.returns
-returns c = record { answer = c.move_symbols.ensures.answer; output = c.move_symbols.ensures.output }
