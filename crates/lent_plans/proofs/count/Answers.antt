@@ -2,4 +2,4 @@
 use Rattle.lent_plans.proofs.count.Goals as goal
 
 pub returns : goal.returns
-returns c = record { number = rw (← c.count.ensures) (c.counted.ensures.number); count = rw (← c.count.ensures) (c.counted.ensures.count) }
+returns c = record { number = rw (← c.count.ensures) (c.taken.ensures.number); count = rw (← c.count.ensures) (c.taken.ensures.out) }

@@ -2,4 +2,4 @@
 use Rattle.lent_plans.proofs.measure.Goals as goal
 
 pub returns : goal.returns
-returns c = record { number = rw (← c.length_of.ensures) (c.measured.ensures.number); bytes = rw (← c.length_of.ensures) (c.measured.ensures.bytes) }
+returns c = record { number = rw (← c.length_of.ensures) (c.taken.ensures.number); bytes = rw (← c.length_of.ensures) (c.taken.ensures.out) }

@@ -2,4 +2,4 @@
 use Rattle.lent_plans.proofs.write.Goals as goal
 
 pub returns : goal.returns
-returns c = record { number = rw (← c.write.ensures.answer) c.written.ensures; out = c.write.ensures.buffer }
+returns c = record { number = rw (← c.write.ensures.answer) c.number.ensures; out = c.write.ensures.buffer }
