@@ -12,26 +12,40 @@ use words::text::{say, write};
 // The longest burst that is shown.
 pub const LONGEST: u32 = 1024;
 
-// The length that is shown: at least 1, at most LONGEST.
-fn limited(length: u32) -> u32
-    ensures { (1 ≤ result) × (result ≤ 1024) }
-{
-    if length > LONGEST {
-        return LONGEST;
-    }
-    if length == 0 { 1 } else { length }
+// A burst that is shown, from byte `at` of the channel on: of at least 1 byte, at most LONGEST.
+#[derive(Clone, Copy)]
+struct Burst {
+    kind: u32,
+    at: u32,
+    length: u32,
+    ghost limited: { (1 ≤ length) × (length ≤ 1024) },
 }
 
-// The least distance between any two of the first n bytes, in words.
-fn least(system: System, kind: u32, at: u32, n: u32) {
-    if n > 1 {
-        say(
-            system,
-            STDOUT_FILENO,
-            b"least distance ",
-            channel::nearest(kind, at, n),
-        );
-        return;
+impl Burst {
+    fn of(kind: u32, at: u32, length: u32) -> Self {
+        Burst {
+            kind,
+            at,
+            length: length.max(1).min(LONGEST),
+        }
     }
-    write(system, STDOUT_FILENO, b"least distance none");
+
+    // Where byte i comes out.
+    fn place(self, i: u32) -> u64 {
+        channel::place(self.kind, self.at, i)
+    }
+
+    // The least distance between any two of its bytes, in words.
+    fn tell_least(self, system: System) {
+        if self.length > 1 {
+            say(
+                system,
+                STDOUT_FILENO,
+                b"least distance ",
+                channel::nearest(self.kind, self.at, self.length),
+            );
+            return;
+        }
+        write(system, STDOUT_FILENO, b"least distance none");
+    }
 }

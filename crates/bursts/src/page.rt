@@ -1,26 +1,23 @@
 // A burst as a table: each of its bytes and the place where it comes out, a line each; then the least distance between any two of them.
-use super::{least, limited};
+use super::Burst;
 use system::{STDOUT_FILENO, System};
-use words::text::{put, put_number, write};
+use words::text::{Text, write};
 
-fn lines(system: System, kind: u32, at: u32, n: u32) {
-    let mut room = [0u8; 4096];
-    let mut end = 0;
-    let mut i = 0;
-    while i < n {
-        end = put_number(system, &mut room, end, at as u64 + i as u64);
-        end = put(system, &mut room, end, b" ");
-        end = put_number(system, &mut room, end, channel::place(kind, at, i));
-        end = put(system, &mut room, end, b"\n");
-        i += 1;
+fn lines(system: System, burst: Burst) {
+    let mut text = Text::new(system);
+    for i in 0..burst.length {
+        text.put_number(u64::from(burst.at) + u64::from(i));
+        text.put(b" ");
+        text.put_number(burst.place(i));
+        text.put(b"\n");
     }
-    words::text::flush(system, &room, end);
+    text.flush();
 }
 
 // `dvb burst` and `atsc burst`.
 pub fn table(system: System, kind: u32, at: u32, length: u32) {
-    let n = limited(length);
-    lines(system, kind, at, n);
-    least(system, kind, at, n);
+    let burst = Burst::of(kind, at, length);
+    lines(system, burst);
+    burst.tell_least(system);
     write(system, STDOUT_FILENO, b"\n");
 }

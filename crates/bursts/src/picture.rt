@@ -3,11 +3,11 @@
 // stroke is wider than a byte.
 ghost use Rattle.std.specs.Prelude.{◌≤◌};
 
-use super::{least, limited};
+use super::Burst;
 use kinds::Stream;
 use kinds::sizes::Sizes;
 use system::{STDOUT_FILENO, System};
-use words::text::{put, put_number, say, write};
+use words::text::{Text, say, write};
 
 // The number that goes with a kind.
 fn by(kind: u32, dvb: u64, atsc: u64) -> u64 {
@@ -22,69 +22,60 @@ fn units(kind: u32, x: u64) -> u64
 }
 
 // x bytes, in units.
-fn put_units(system: System, room: &mut [u8; 4096], from: usize, kind: u32, x: u64) -> usize {
-    let end = put_number(system, room, from, units(kind, x));
-    if kind == Stream::DVB {
-        return end;
+fn put_units(text: &mut Text, kind: u32, x: u64) {
+    text.put_number(units(kind, x));
+    if kind != Stream::DVB {
+        text.put(b".");
+        text.put_number(x % 5 * 2);
     }
-    let point = put(system, room, end, b".");
-    put_number(system, room, point, x % 5 * 2)
 }
 
 // Where byte i comes out, counted from the burst's first.
-fn across(kind: u32, at: u32, i: u32) -> u64 {
-    channel::place(kind, at, i) - at as u64
+fn across(burst: Burst, i: u32) -> u64 {
+    channel::place(burst.kind, burst.at, i) - burst.at as u64
 }
 
 // A stroke for each byte: through the channel, to its place, through the output.
-fn strokes(system: System, kind: u32, at: u32, n: u32) {
-    let mut room = [0u8; 4096];
-    let mut end = 0;
-    let mut i = 0;
-    while i < n {
-        end = put(system, &mut room, end, b"M");
-        end = put_units(system, &mut room, end, kind, i as u64);
-        end = put(system, &mut room, end, b" 0v100L");
-        end = put_units(system, &mut room, end, kind, across(kind, at, i));
-        end = put(system, &mut room, end, b" 350v100");
-        i += 1;
+fn strokes(system: System, burst: Burst) {
+    let mut text = Text::new(system);
+    for i in 0..burst.length {
+        text.put(b"M");
+        put_units(&mut text, burst.kind, u64::from(i));
+        text.put(b" 0v100L");
+        put_units(&mut text, burst.kind, across(burst, i));
+        text.put(b" 350v100");
     }
-    words::text::flush(system, &room, end);
+    text.flush();
 }
 
 // The place of each byte, between `before` and `behind` where it stands.
-fn places(system: System, kind: u32, at: u32, n: u32, before: &[u8], behind: &[u8]) {
-    let mut room = [0u8; 4096];
-    let mut end = 0;
-    let mut i = 0;
-    while i < n {
-        end = put(system, &mut room, end, before);
-        end = put_units(system, &mut room, end, kind, across(kind, at, i));
-        end = put(system, &mut room, end, behind);
-        end = put_number(system, &mut room, end, channel::place(kind, at, i));
-        end = put(system, &mut room, end, b"</text>");
-        i += 1;
+fn places(system: System, burst: Burst, before: &[u8], behind: &[u8]) {
+    let mut text = Text::new(system);
+    for i in 0..burst.length {
+        text.put(before);
+        put_units(&mut text, burst.kind, across(burst, i));
+        text.put(behind);
+        text.put_number(burst.place(i));
+        text.put(b"</text>");
     }
-    words::text::flush(system, &room, end);
+    text.flush();
 }
 
 // The places below the strokes. ATSC's stand closer, and theirs are turned upright.
-fn numbers(system: System, kind: u32, at: u32, n: u32) {
+fn numbers(system: System, burst: Burst) {
     write(
         system,
         STDOUT_FILENO,
         b"<g font-family=\"sans-serif\" fill=\"#444\" font-size=\"36\"",
     );
-    if kind == Stream::DVB {
+    if burst.kind == Stream::DVB {
         write(system, STDOUT_FILENO, b" text-anchor=\"middle\">");
-        places(system, kind, at, n, b"<text x=\"", b"\" y=\"490\">");
+        places(system, burst, b"<text x=\"", b"\" y=\"490\">");
     } else {
         write(system, STDOUT_FILENO, b">");
         places(
             system,
-            kind,
-            at,
-            n,
+            burst,
             b"<text transform=\"translate(",
             b" 465)rotate(90)\" y=\"13\">",
         );
@@ -105,36 +96,37 @@ fn bar(system: System, top: u64, width: u64) {
 }
 
 // The burst's bytes, in words.
-fn bytes(system: System, at: u32, n: u32)
-    requires { (1 ≤ n) × (n ≤ 1024) }
-{
-    let from = at as u64;
-    if n > 1 {
+fn bytes(system: System, burst: Burst) {
+    let from = u64::from(burst.at);
+    if burst.length > 1 {
         say(system, STDOUT_FILENO, b"bytes ", from);
-        say(system, STDOUT_FILENO, b" to ", from + n as u64 - 1);
+        say(
+            system,
+            STDOUT_FILENO,
+            b" to ",
+            from + u64::from(burst.length) - 1,
+        );
         return;
     }
     say(system, STDOUT_FILENO, b"byte ", from);
 }
 
 // What the two bars are.
-fn captions(system: System, kind: u32, at: u32, n: u32)
-    requires { (1 ≤ n) × (n ≤ 1024) }
-{
+fn captions(system: System, burst: Burst) {
     write(
         system,
         STDOUT_FILENO,
         b"<g font-family=\"sans-serif\" fill=\"#444\" font-size=\"50\"><text y=\"-30\">channel: ",
     );
-    bytes(system, at, n);
+    bytes(system, burst);
     say(
         system,
         STDOUT_FILENO,
         b"</text><text y=\"",
-        by(kind, 560, 700),
+        by(burst.kind, 560, 700),
     );
     write(system, STDOUT_FILENO, b"\">out of the deinterleaver: ");
-    least(system, kind, at, n);
+    burst.tell_least(system);
     write(system, STDOUT_FILENO, b"</text></g>\n");
 }
 
@@ -160,10 +152,9 @@ fn longest_delay(kind: u32) -> u64
     Sizes::of(kind).store as u64 * 2
 }
 
-fn head(system: System, kind: u32, at: u32, n: u32)
-    requires { (1 ≤ n) × (n ≤ 1024) }
-{
-    let width = units(kind, n as u64 + longest_delay(kind));
+fn head(system: System, burst: Burst) {
+    let kind = burst.kind;
+    let width = units(kind, u64::from(burst.length) + longest_delay(kind));
     say(
         system,
         STDOUT_FILENO,
@@ -181,16 +172,16 @@ fn head(system: System, kind: u32, at: u32, n: u32)
     title(system, kind);
     bar(system, 0, width + 10);
     bar(system, 350, width + 10);
-    captions(system, kind, at, n);
+    captions(system, burst);
 }
 
 // `picture dvb burst` and `picture atsc burst`. The places are told where strokes are few, so that none stands closer than the proved distance, and
 // the numbers short.
 pub fn picture(system: System, kind: u32, at: u32, length: u32) {
-    let n = limited(length);
-    head(system, kind, at, n);
-    if (n as usize <= Sizes::of(kind).branches) & (at < 1000000) {
-        numbers(system, kind, at, n);
+    let burst = Burst::of(kind, at, length);
+    head(system, burst);
+    if burst.length as usize <= Sizes::of(kind).branches && at < 1000000 {
+        numbers(system, burst);
     }
     say(
         system,
@@ -199,6 +190,6 @@ pub fn picture(system: System, kind: u32, at: u32, length: u32) {
         by(kind, 6, 3),
     );
     write(system, STDOUT_FILENO, b"\" d=\"");
-    strokes(system, kind, at, n);
+    strokes(system, burst);
     write(system, STDOUT_FILENO, b"\"/>\n</svg>\n");
 }

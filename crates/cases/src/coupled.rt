@@ -1,6 +1,6 @@
 // Request 12: profile 9, P0 to P3, and blocks of couples. A list and a block are worked by hand.
 use super::looks::MARK;
-use super::{show_block, show_one, show_walk, tell_moved, test_set, walk_five, words};
+use super::{show_block, show_one, show_walk, stream_set, tell_moved, test_set, walk_five, words};
 use laws::Way;
 use sets::{Factors, Set};
 use system::System;
@@ -16,11 +16,8 @@ fn four(first: u32, second: u32, third: u32, fourth: u32) -> Factors {
 
 fn set_of(profile: u32, bits: u32, n: u32, stream: u32, factors: Factors) -> Set {
     Set {
-        profile,
-        bits,
-        n,
-        stream,
         factors,
+        ..stream_set(profile, bits, n, stream)
     }
 }
 
@@ -111,15 +108,13 @@ pub fn show_blocks(system: System, way: Way) {
 
 // Each symbol its own number.
 fn number_all(block: &mut [u8; 48]) {
-    let mut i = 0;
-    while i < 48 {
-        block[i] = i as u8;
-        i += 1;
+    for (i, symbol) in block.iter_mut().enumerate() {
+        *symbol = i as u8;
     }
 }
 
 fn show_moved(system: System, way: Way, src: &[u8; 48], dst: &mut [u8; 48]) {
-    let m = blocks::bytes::move_block(way, least_set(), src, dst);
+    let m = blocks::move_block(way, least_set(), src, dst);
     words::either(system, way, b"interleave bytes,", b"deinterleave bytes,");
     words::set(system, least_set());
     tell_moved(system, m);

@@ -33,8 +33,8 @@ fn stream_set(profile: u32, bits: u32, n: u32, stream: u32) -> Set {
 
 fn tell_verdict(system: System, v: Verdict) {
     match v {
-        Verdict::Accepted => words::text(system, b": accepted"),
-        Verdict::Refused(x) => words::refused(system, x),
+        Ok(()) => words::text(system, b": accepted"),
+        Err(x) => words::refused(system, x),
     }
 }
 
@@ -76,16 +76,12 @@ fn tell_written(system: System, slots: &[u16], written: u32) {
 
 fn tell_walked(system: System, r: Walked, slots: &[u16]) {
     match r {
-        Walked::Refused(x) => words::refused(system, x),
-        Walked::Done {
-            written,
-            next,
-            cells,
-        } => {
-            words::number(system, b": done, written ", written as u64);
-            words::number(system, b", next ", next.cell as u64);
-            words::number(system, b", cells ", cells as u64);
-            tell_written(system, slots, written);
+        Err(x) => words::refused(system, x),
+        Ok(values) => {
+            words::number(system, b": done, written ", values.written as u64);
+            words::number(system, b", next ", values.next.cell as u64);
+            words::number(system, b", cells ", values.cells as u64);
+            tell_written(system, slots, values.written);
         }
     }
 }
@@ -128,8 +124,8 @@ fn show_walks(system: System) {
 
 fn tell_found(system: System, f: Found) {
     match f {
-        Found::At(a) => words::number(system, b": ", a as u64),
-        Found::Refused(x) => words::refused(system, x),
+        Ok(a) => words::number(system, b": ", a as u64),
+        Err(x) => words::refused(system, x),
     }
 }
 
@@ -155,8 +151,8 @@ fn show_ones(system: System) {
 
 fn tell_moved(system: System, m: Moved) {
     match m {
-        Moved::Done => words::text(system, b": done"),
-        Moved::Refused(x) => words::refused(system, x),
+        Ok(()) => words::text(system, b": done"),
+        Err(x) => words::refused(system, x),
     }
 }
 
@@ -166,7 +162,7 @@ fn show_block(system: System, way: Way, set: Set, src: &[u8], dst: &mut [u8]) {
     words::set(system, set);
     words::number(system, b" input ", src.len() as u64);
     words::number(system, b" output ", dst.len() as u64);
-    tell_moved(system, blocks::bytes::move_block(way, set, src, dst));
+    tell_moved(system, blocks::move_block(way, set, src, dst));
     words::last(system, b"; bytes written ", looks::written(dst));
 }
 
@@ -193,7 +189,7 @@ fn show_soft(
     src: &[f32; 192],
     dst: &mut [f32; 192],
 ) {
-    let m = blocks::soft::move_block(way, set, src, dst);
+    let m = blocks::move_block(way, set, src, dst);
     words::either(
         system,
         way,

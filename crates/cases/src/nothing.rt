@@ -24,16 +24,17 @@ fn tell_kind(system: System, kind: u32) {
 
 // What a feed from record s says.
 fn tell_next(system: System, got: Answer, s: Stream) {
-    let said = got.said;
     let next = got.stream;
-    match said {
+    match got.said {
         Err(k) => words::number(system, b": refused ", k as u64),
         Ok(()) => {
-            let before = s.places;
-            let after = next.places;
             words::number(system, b": done, branch ", s.branch as u64);
             words::number(system, b" moved to ", next.branch as u64);
-            words::number(system, b", places moved ", looks::moved(&before, &after));
+            words::number(
+                system,
+                b", places moved ",
+                looks::differing(&s.places, &next.places),
+            );
         }
     }
 }

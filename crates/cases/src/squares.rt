@@ -1,6 +1,6 @@
 // Request 6: profile 8, and f1 and f2.
 use super::looks::MARK;
-use super::{show_one, show_walk, test_set, walk_five};
+use super::{new_set, show_one, show_walk, test_set, walk_five};
 use laws::Way;
 use sets::{Factors, Set};
 use system::System;
@@ -16,33 +16,24 @@ fn factors(first: u32, second: u32) -> Factors {
 
 fn lte_set(k: u32, f1: u32, f2: u32) -> Set {
     Set {
-        profile: 8,
-        bits: 1,
-        n: k,
-        stream: 1,
         factors: factors(f1, f2),
+        ..new_set(8, 1, k)
     }
 }
 
 // f1 and f2 of a set of another profile, which does not read them.
 fn unread() -> Set {
     Set {
-        profile: 3,
-        bits: 1,
-        n: 48,
-        stream: 1,
         factors: factors(4294967295, 0),
+        ..new_set(3, 1, 48)
     }
 }
 
 // A stream that there is not, and numbers that there are not.
 fn strayed() -> Set {
     Set {
-        profile: 8,
-        bits: 1,
-        n: 40,
         stream: 2,
-        factors: factors(0, 40),
+        ..lte_set(40, 0, 40)
     }
 }
 

@@ -74,34 +74,18 @@ pub fn refused(system: System, x: Refusal) {
     }
 }
 
-// One address in a list.
-fn address(system: System, a: u16) {
-    number(system, b" ", a as u64);
-}
-
 // The first n addresses of a slice.
 pub fn addresses(system: System, slots: &[u16], n: u32) {
-    let mut i = 0;
-    while i < slots.len() {
-        if i < n as usize {
-            address(system, slots[i]);
-        }
-        i += 1;
+    for a in slots.iter().take(n as usize) {
+        number(system, b" ", u64::from(*a));
     }
-}
-
-// One symbol of a block.
-fn symbol(system: System, b: u8) {
-    number(system, b" ", b as u64);
 }
 
 // All symbols of a block, as the last of a line.
 pub fn symbols(system: System, block: &[u8]) {
     text(system, b"; symbols");
-    let mut i = 0;
-    while i < block.len() {
-        symbol(system, block[i]);
-        i += 1;
+    for b in block {
+        number(system, b" ", u64::from(*b));
     }
     text(system, b"\n");
 }

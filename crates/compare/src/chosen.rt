@@ -1,36 +1,50 @@
 // The sets that are compared.
-use sets::{Factors, Set, Verdict};
+use sets::{Factors, Set};
+
+// The sets of a comparison.
+#[derive(Clone, Copy)]
+pub enum Choice {
+    Carriers,
+    Turbos,
+    Eighteen,
+    Spatials,
+    Listed,
+    Couples,
+    EveryCouple,
+}
+
+// A set with no numbers beside its size and its stream.
+fn spatial_set(profile: u32, bits: u32, n: u32, stream: u32) -> Set {
+    Set {
+        profile,
+        bits,
+        n,
+        stream,
+        factors: sets::NO_FACTORS,
+    }
+}
+
+pub fn carrier_set(profile: u32, bits: u32, n: u32) -> Set {
+    spatial_set(profile, bits, n, 1)
+}
+
+pub fn turbo_set(k: u32) -> Set {
+    carrier_set(5, 1, k)
+}
 
 // The i-th of all profiles 1 to 4, bits 1 to 6, sizes 1 to 1,536: 36,864, most of them refused.
 fn carrier_at(i: u32) -> Set {
-    Set {
-        profile: i / 9216 % 4 + 1,
-        bits: i / 1536 % 6 + 1,
-        n: i % 1536 + 1,
-        stream: 1,
-        factors: sets::NO_FACTORS,
-    }
+    carrier_set(i / 9216 % 4 + 1, i / 1536 % 6 + 1, i % 1536 + 1)
 }
 
 // The i-th of profiles 6 and 7, bits 1 to 6, streams 0 to 5, sizes 1 to 648: 46,656, most of them refused.
 fn spatial_at(i: u32) -> Set {
-    Set {
-        profile: i / 23328 % 2 + 6,
-        bits: i / 3888 % 6 + 1,
-        n: i % 648 + 1,
-        stream: i / 648 % 6,
-        factors: sets::NO_FACTORS,
-    }
-}
-
-pub fn turbo_set(k: u32) -> Set {
-    Set {
-        profile: 5,
-        bits: 1,
-        n: k,
-        stream: 1,
-        factors: sets::NO_FACTORS,
-    }
+    spatial_set(
+        i / 23328 % 2 + 6,
+        i / 3888 % 6 + 1,
+        i % 648 + 1,
+        i / 648 % 6,
+    )
 }
 
 fn standard(k: u32) -> Factors {
@@ -40,31 +54,14 @@ fn standard(k: u32) -> Factors {
 // A set of profile 8.
 pub fn quadratic_set(k: u32, factors: Factors) -> Set {
     Set {
-        profile: 8,
-        bits: 1,
-        n: k,
-        stream: 1,
         factors,
+        ..carrier_set(8, 1, k)
     }
 }
 
 // The same with LTE's own factors.
 fn lte_set(k: u32) -> Set {
     quadratic_set(k, standard(k))
-}
-
-fn carrier_set(profile: u32, bits: u32, n: u32) -> Set {
-    spatial_set(profile, bits, n, 1)
-}
-
-fn spatial_set(profile: u32, bits: u32, n: u32, stream: u32) -> Set {
-    Set {
-        profile,
-        bits,
-        n,
-        stream,
-        factors: sets::NO_FACTORS,
-    }
 }
 
 // P0 to P3.
@@ -80,11 +77,8 @@ pub fn four(first: u32, second: u32, third: u32, fourth: u32) -> Factors {
 // A set of profile 9.
 pub fn coupled_set(n: u32, factors: Factors) -> Set {
     Set {
-        profile: 9,
-        bits: 1,
-        n,
-        stream: 1,
         factors,
+        ..carrier_set(9, 1, n)
     }
 }
 
@@ -93,7 +87,7 @@ fn small(n: u32, digit: u32) -> u32 {
     if digit < 3 {
         return digit;
     }
-    std::num::wrapping_sub_u32(n, 1)
+    n.wrapping_sub(1)
 }
 
 // The i-th of N 24 to 64 by 4, P0 0 to 64, and 0, 1, 2 and N - 1 for each of P1, P2 and P3: 45,760, most of them refused.
@@ -144,40 +138,39 @@ pub fn eighteen_at(i: u32) -> Set {
     }
 }
 
-// A choice of sets: 0 profiles 1 to 4, 1 profile 5, 2 the eighteen, 3 profiles 6 and 7, 4 profile 8, sizes 1 to 6,144, most of them refused, 5
-// profile 9 with many numbers, and 6 each of its sizes.
-pub fn set_at(choice: u32, i: u32) -> Set {
+// The i-th set of a choice: of profile 8 sizes 1 to 6,144, most of them refused, and of 9 many numbers, or each of its sizes.
+pub fn set_at(choice: Choice, i: u32) -> Set {
     match choice {
-        0 => carrier_at(i),
-        1 => turbo_set(i % 5075 + 40),
-        3 => spatial_at(i),
-        4 => lte_set(i % 6144 + 1),
-        5 => coupled_at(i),
-        6 => every_couple_at(i),
-        _ => eighteen_at(i),
+        Choice::Carriers => carrier_at(i),
+        Choice::Turbos => turbo_set(i % 5075 + 40),
+        Choice::Eighteen => eighteen_at(i),
+        Choice::Spatials => spatial_at(i),
+        Choice::Listed => lte_set(i % 6144 + 1),
+        Choice::Couples => coupled_at(i),
+        Choice::EveryCouple => every_couple_at(i),
     }
 }
 
-pub fn sets_in(choice: u32) -> u32 {
+pub fn sets_in(choice: Choice) -> u32 {
     match choice {
-        0 => 36864,
-        1 => 5075,
-        3 => 46656,
-        4 => 6144,
-        5 => 45760,
-        6 => 595,
-        _ => 18,
+        Choice::Carriers => 36864,
+        Choice::Turbos => 5075,
+        Choice::Eighteen => 18,
+        Choice::Spatials => 46656,
+        Choice::Listed => 6144,
+        Choice::Couples => 45760,
+        Choice::EveryCouple => 595,
     }
 }
 
 // The number that the test of a set gives, or 0.
 pub fn verdict(set: Set) -> u32 {
     match sets::test(set) {
-        Verdict::Accepted => 0,
-        Verdict::Refused(x) => x.number,
+        Ok(()) => 0,
+        Err(x) => x.number,
     }
 }
 
 pub fn accepted(set: Set) -> bool {
-    verdict(set) == 0
+    sets::test(set).is_ok()
 }

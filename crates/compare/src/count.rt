@@ -3,7 +3,7 @@
 use crate::num::sum;
 use system::System;
 
-#[derive(Clone, Copy)]
+#[derive(Clone, Copy, Default)]
 pub struct Count {
     pub sets: u64,
     pub calls: u64,
@@ -15,18 +15,6 @@ pub struct Count {
 }
 
 impl Count {
-    pub fn none() -> Self {
-        Count {
-            sets: 0,
-            calls: 0,
-            addresses: 0,
-            cells: 0,
-            padding: 0,
-            weight: 0,
-            differences: 0,
-        }
-    }
-
     pub fn with(self, more: Count) -> Self {
         Count {
             sets: sum(self.sets, more.sets),
@@ -42,13 +30,8 @@ impl Count {
     // Differences alone.
     pub fn wrong(n: u64) -> Self {
         Count {
-            sets: 0,
-            calls: 0,
-            addresses: 0,
-            cells: 0,
-            padding: 0,
-            weight: 0,
             differences: n,
+            ..Count::default()
         }
     }
 }
@@ -90,7 +73,7 @@ pub fn last_line(system: System, n: u64) {
 }
 
 // How many sets were tried, how many of them were accepted, and at how many the test gave another number than trying.
-#[derive(Clone, Copy)]
+#[derive(Clone, Copy, Default)]
 pub struct Tried {
     pub sets: u64,
     pub accepted: u64,
@@ -98,20 +81,12 @@ pub struct Tried {
 }
 
 impl Tried {
-    pub fn none() -> Self {
-        Tried {
-            sets: 0,
-            accepted: 0,
-            differences: 0,
-        }
-    }
-
     // One more set.
     pub fn with(self, got: u32, right: u32) -> Self {
         Tried {
             sets: sum(self.sets, 1),
-            accepted: sum(self.accepted, if got == 0 { 1 } else { 0 }),
-            differences: sum(self.differences, if got == right { 0 } else { 1 }),
+            accepted: sum(self.accepted, u64::from(got == 0)),
+            differences: sum(self.differences, u64::from(got != right)),
         }
     }
 }

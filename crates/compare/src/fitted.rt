@@ -1,13 +1,14 @@
 // The size that refusal 3 carries held against going through all sizes: of profiles 0 to 10 and bits 0 to 7, from 6,200 down to 0, so that the last one
 // that was listed is the least not below. Going up, it is the greatest below, which is wrong on purpose.
+use crate::chosen::carrier_set;
 use crate::count::number;
 use crate::num::sum;
-use sets::{Refusal, Set, Verdict};
+use sets::Refusal;
 use system::System;
 
 // The size that was listed last; how many were refused with 3, how many of these carried 0, what they carried in all, and at how many refusals it was
 // another size than expected.
-#[derive(Clone, Copy)]
+#[derive(Clone, Copy, Default)]
 struct Run {
     last: u32,
     sizes: u64,
@@ -20,30 +21,17 @@ impl Run {
     // A refusal whose size is to be `right`.
     fn with(self, x: Refusal, right: u32) -> Self {
         Run {
-            last: self.last,
-            sizes: sum(self.sizes, if x.number == 3 { 1 } else { 0 }),
-            none: sum(
-                self.none,
-                if (x.number == 3) & (x.size == 0) {
-                    1
-                } else {
-                    0
-                },
-            ),
-            total: sum(self.total, x.size as u64),
-            differences: sum(self.differences, if x.size == right { 0 } else { 1 }),
+            sizes: sum(self.sizes, u64::from(x.number == 3)),
+            none: sum(self.none, u64::from(x.number == 3 && x.size == 0)),
+            total: sum(self.total, u64::from(x.size)),
+            differences: sum(self.differences, u64::from(x.size != right)),
+            ..self
         }
     }
 
     // The size n is listed.
     fn at(self, n: u32) -> Self {
-        Run {
-            last: n,
-            sizes: self.sizes,
-            none: self.none,
-            total: self.total,
-            differences: self.differences,
-        }
+        Run { last: n, ..self }
     }
 }
 
@@ -61,41 +49,27 @@ fn refused(x: Refusal, n: u32, r: Run) -> Run {
 
 // One size.
 fn one(profile: u32, bits: u32, n: u32, r: Run) -> Run {
-    match sets::test(Set {
-        profile,
-        bits,
-        n,
-        stream: 1,
-        factors: sets::NO_FACTORS,
-    }) {
-        Verdict::Accepted => r.at(n),
-        Verdict::Refused(x) => refused(x, n, r),
+    match sets::test(carrier_set(profile, bits, n)) {
+        Ok(()) => r.at(n),
+        Err(x) => refused(x, n, r),
     }
 }
 
 // All sizes of a profile and bits.
 fn sizes(profile: u32, bits: u32, up: bool, so_far: Run) -> Run {
     let mut r = so_far.at(0);
-    let mut i = 0;
-    while i <= 6200 {
+    for i in 0..=6200 {
         r = one(profile, bits, if up { i } else { 6200 - i }, r);
-        i += 1;
     }
     r
 }
 
 fn each(up: bool) -> Run {
-    let mut r = Run {
-        last: 0,
-        sizes: 0,
-        none: 0,
-        total: 0,
-        differences: 0,
-    };
-    let mut i = 0;
-    while i < 88 {
-        r = sizes(i / 8, i % 8, up, r);
-        i += 1;
+    let mut r = Run::default();
+    for profile in 0..=10 {
+        for bits in 0..=7 {
+            r = sizes(profile, bits, up, r);
+        }
     }
     r
 }

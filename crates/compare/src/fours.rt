@@ -11,16 +11,16 @@ use system::System;
 fn seven(n: u32, digit: u32) -> u32 {
     match digit {
         4 => n / 2,
-        5 => std::num::wrapping_sub_u32(n, 1),
+        5 => n.wrapping_sub(1),
         6 => n,
         _ => digit,
     }
 }
 
-// The i-th four numbers of an N.
-fn four_at(n: u32, i: u32) -> Factors {
+// The i-th four numbers of an N that begin with P0.
+fn four_at(n: u32, p0: u32, i: u32) -> Factors {
     four(
-        i / 343,
+        p0,
         seven(n, i / 49 % 7),
         seven(n, i / 7 % 7),
         seven(n, i % 7),
@@ -36,7 +36,7 @@ fn given(n: u32, p: Factors, exchanged: bool) -> u32 {
 }
 
 fn is_below(n: u32, p: Factors) -> bool {
-    (p.first < n) & ((p.second < n) & ((p.third < n) & (p.fourth < n)))
+    p.first < n && p.second < n && p.third < n && p.fourth < n
 }
 
 // The number that trying gives: 11 for a number that is not below N, 10 where two outputs share a couple.
@@ -44,45 +44,30 @@ fn expected(n: u32, p: Factors, seen: &mut [u16]) -> u32 {
     if !is_below(n, p) {
         return 11;
     }
-    if shares(
-        n as usize,
-        p.first as usize,
-        p.second as usize,
-        p.third as usize,
-        p.fourth as usize,
-        seen,
-    ) {
-        return 10;
+    if shares(coupled_set(n, p), seen) {
+        10
+    } else {
+        0
     }
-    0
-}
-
-// One set. A P0 past N is passed over.
-fn one(n: u32, p: Factors, exchanged: bool, seen: &mut [u16], so_far: Tried) -> Tried {
-    if p.first > n {
-        return so_far;
-    }
-    so_far.with(given(n, p, exchanged), expected(n, p, seen))
 }
 
 // All numbers with an N.
 fn each_four(n: u32, exchanged: bool, seen: &mut [u16], so_far: Tried) -> Tried {
     let mut t = so_far;
-    let mut i = 0;
-    while i < 22295 {
-        t = one(n, four_at(n, i), exchanged, seen, t);
-        i += 1;
+    for p0 in 0..=n {
+        for i in 0..343 {
+            let p = four_at(n, p0, i);
+            t = t.with(given(n, p, exchanged), expected(n, p, seen));
+        }
     }
     t
 }
 
 // N 24 to 64 by 4.
 fn each(exchanged: bool, seen: &mut [u16]) -> Tried {
-    let mut t = Tried::none();
-    let mut m = 6;
-    while m <= 16 {
+    let mut t = Tried::default();
+    for m in 6..=16 {
         t = each_four(m * 4, exchanged, seen, t);
-        m += 1;
     }
     t
 }

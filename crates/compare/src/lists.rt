@@ -1,5 +1,5 @@
 // Walks against lists of the second computation: every set of a choice, whole and in slices.
-use crate::chosen::{accepted, set_at, sets_in};
+use crate::chosen::{Choice, accepted, set_at, sets_in};
 use crate::count::Count;
 use crate::num::sum;
 use crate::{count, slices};
@@ -31,13 +31,12 @@ fn one_off(way: Way, set: Set, list: &mut [u16]) -> Whole {
 // The whole list of a set by the second computation.
 pub fn list_of(way: Way, set: Set, made: Made, list: &mut [u16]) -> Whole {
     match made {
-        Made::Right => second::list_of(way, set, list),
+        Made::Right | Made::SwappedEven => second::list_of(way, set, list),
         Made::Off => one_off(way, set, list),
         Made::Unexchanged => second::unexchanged(set, list),
         Made::Unturned => second::unturned(way, set, list),
         Made::Unsquared => second::squares::unsquared(set, list),
         Made::Misprinted => second::coupled::misprinted(set, list),
-        Made::SwappedEven => second::list_of(way, set, list),
     }
 }
 
@@ -58,7 +57,7 @@ pub fn symbols_of(set: Set, made: Made, list: &mut [u16]) {
 // A set is left out where nothing differs.
 fn if_touched(c: Count) -> Count {
     if c.differences == 0 {
-        return Count::none();
+        return Count::default();
     }
     c
 }
@@ -66,32 +65,27 @@ fn if_touched(c: Count) -> Count {
 // What is counted of a set: without the exchange or the turn, the sets that it touches and no other.
 fn counted(made: Made, c: Count) -> Count {
     match made {
-        Made::Unexchanged => if_touched(c),
-        Made::Unturned => if_touched(c),
+        Made::Unexchanged | Made::Unturned => if_touched(c),
         _ => c,
     }
 }
 
-// A walk against a list, in slices of a size, or whole for size 0.
-fn hold(way: Way, w: Whole, size: usize, list: &[u16], slice: &mut [u16]) -> Count {
-    if size == 0 {
-        let set = w.set;
-        return slices::compare(way, w, set.n as usize, list, slice);
-    }
-    slices::compare(way, w, size, list, slice)
+// A walk against a list, in slices of a size, or whole.
+fn hold(way: Way, w: Whole, size: Option<usize>, list: &[u16], slice: &mut [u16]) -> Count {
+    slices::compare(way, w, size.unwrap_or(w.set.n as usize), list, slice)
 }
 
-// One set, in slices of a size, or whole for size 0. A refused set is passed over.
+// One set, in slices of a size, or whole. A refused set is passed over.
 pub fn walk_one(
     way: Way,
     set: Set,
-    size: usize,
+    size: Option<usize>,
     made: Made,
     list: &mut [u16],
     slice: &mut [u16],
 ) -> Count {
     if !accepted(set) {
-        return Count::none();
+        return Count::default();
     }
     let w = list_of(way, set, made, list);
     counted(made, hold(way, w, size, list, slice))
@@ -99,23 +93,26 @@ pub fn walk_one(
 
 pub fn walk_each(
     way: Way,
-    choice: u32,
-    size: usize,
+    choice: Choice,
+    size: Option<usize>,
     made: Made,
     list: &mut [u16],
     slice: &mut [u16],
 ) -> Count {
-    let n = sets_in(choice);
-    let mut c = Count::none();
-    let mut i = 0;
-    while i < n {
+    let mut c = Count::default();
+    for i in 0..sets_in(choice) {
         c = c.with(walk_one(way, set_at(choice, i), size, made, list, slice));
-        i += 1;
     }
     c
 }
 
-pub fn walks_of(system: System, way: Way, title: &[u8], choice: u32, size: usize) -> u64 {
+pub fn walks_of(
+    system: System,
+    way: Way,
+    title: &[u8],
+    choice: Choice,
+    size: Option<usize>,
+) -> u64 {
     let mut list = [0u16; 12288];
     let mut slice = [0u16; 6144];
     let c = walk_each(way, choice, size, Made::Right, &mut list, &mut slice);
@@ -124,9 +121,9 @@ pub fn walks_of(system: System, way: Way, title: &[u8], choice: u32, size: usize
 }
 
 // Every set of a choice, whole and in slices.
-pub fn every(system: System, way: Way, choice: u32, whole: &[u8], sliced: &[u8]) -> u64 {
-    let a = walks_of(system, way, whole, choice, 0);
-    let b = walks_of(system, way, sliced, choice, 1024);
+pub fn every(system: System, way: Way, choice: Choice, whole: &[u8], sliced: &[u8]) -> u64 {
+    let a = walks_of(system, way, whole, choice, None);
+    let b = walks_of(system, way, sliced, choice, Some(1024));
     sum(a, b)
 }
 
@@ -134,7 +131,7 @@ pub fn every_l(system: System) -> u64 {
     every(
         system,
         Way::Interleaver,
-        0,
+        Choice::Carriers,
         b"L of profiles 1 to 4, whole",
         b"L of profiles 1 to 4, slices of 1024",
     )
@@ -144,7 +141,7 @@ pub fn every_m(system: System) -> u64 {
     every(
         system,
         Way::Deinterleaver,
-        0,
+        Choice::Carriers,
         b"M of profiles 1 to 4, whole",
         b"M of profiles 1 to 4, slices of 1024",
     )
@@ -152,9 +149,9 @@ pub fn every_m(system: System) -> u64 {
 
 // Profiles 6 and 7, whole and in slices that cut before, at and after the place where a turned list begins again.
 fn every_spatial(system: System, way: Way, whole: &[u8], ones: &[u8], sevens: &[u8]) -> u64 {
-    let a = walks_of(system, way, whole, 3, 0);
-    let b = walks_of(system, way, ones, 3, 1);
-    let c = walks_of(system, way, sevens, 3, 7);
+    let a = walks_of(system, way, whole, Choice::Spatials, None);
+    let b = walks_of(system, way, ones, Choice::Spatials, Some(1));
+    let c = walks_of(system, way, sevens, Choice::Spatials, Some(7));
     sum(a, sum(b, c))
 }
 
@@ -183,7 +180,7 @@ pub fn every_lte(system: System) -> u64 {
     let a = every(
         system,
         Way::Interleaver,
-        4,
+        Choice::Listed,
         b"L of profile 8, whole",
         b"L of profile 8, slices of 1024",
     );
@@ -193,8 +190,8 @@ pub fn every_lte(system: System) -> u64 {
             system,
             Way::Interleaver,
             b"L of profile 8, slices of 7",
-            4,
-            7,
+            Choice::Listed,
+            Some(7),
         ),
     )
 }
@@ -202,15 +199,33 @@ pub fn every_lte(system: System) -> u64 {
 // Profile 9 with many numbers, and each of its sizes, whole and in slices.
 pub fn every_couple(system: System) -> u64 {
     let way = Way::Interleaver;
-    let a = walks_of(system, way, b"L of profile 9, N 24 to 64, whole", 5, 0);
+    let a = walks_of(
+        system,
+        way,
+        b"L of profile 9, N 24 to 64, whole",
+        Choice::Couples,
+        None,
+    );
     let b = walks_of(
         system,
         way,
         b"L of profile 9, N 24 to 64, slices of 7",
-        5,
-        7,
+        Choice::Couples,
+        Some(7),
     );
-    let c = walks_of(system, way, b"L of profile 9, every N, whole", 6, 0);
-    let d = walks_of(system, way, b"L of profile 9, every N, slices of 7", 6, 7);
+    let c = walks_of(
+        system,
+        way,
+        b"L of profile 9, every N, whole",
+        Choice::EveryCouple,
+        None,
+    );
+    let d = walks_of(
+        system,
+        way,
+        b"L of profile 9, every N, slices of 7",
+        Choice::EveryCouple,
+        Some(7),
+    );
     sum(sum(a, b), sum(c, d))
 }

@@ -21,7 +21,7 @@ mod report;
 mod slices;
 mod wrong;
 
-use chosen::eighteen_at;
+use chosen::{Choice, eighteen_at};
 use count::Count;
 use laws::Way;
 use lists::{Made, list_of, symbols_of, walks_of};
@@ -39,11 +39,9 @@ fn blocks_one(i: u32, made: Made, list: &mut [u16]) -> Count {
 }
 
 fn blocks_each(list: &mut [u16]) -> Count {
-    let mut c = Count::none();
-    let mut i = 0;
-    while i < 36 {
+    let mut c = Count::default();
+    for i in 0..36 {
         c = c.with(blocks_one(i, Made::Right, list));
-        i += 1;
     }
     c
 }
@@ -62,11 +60,9 @@ fn singles_one(i: u32, made: Made, list: &mut [u16]) -> Count {
 }
 
 fn singles_each(list: &mut [u16]) -> Count {
-    let mut c = Count::none();
-    let mut i = 0;
-    while i < 18 {
+    let mut c = Count::default();
+    for i in 0..18 {
         c = c.with(singles_one(i, Made::Right, list));
-        i += 1;
     }
     c
 }
@@ -83,22 +79,22 @@ fn eighteen_walks(system: System) -> u64 {
         system,
         Way::Interleaver,
         b"L of eighteen, slices of 1",
-        2,
-        1,
+        Choice::Eighteen,
+        Some(1),
     );
     let b = walks_of(
         system,
         Way::Interleaver,
         b"L of eighteen, slices of 7",
-        2,
-        7,
+        Choice::Eighteen,
+        Some(7),
     );
     let c = walks_of(
         system,
         Way::Interleaver,
         b"L of eighteen, slices of 137",
-        2,
-        137,
+        Choice::Eighteen,
+        Some(137),
     );
     sum(a, sum(b, c))
 }
@@ -137,7 +133,7 @@ fn main(rt: HostRuntime) {
     let turbos = lists::every(
         system,
         Way::Interleaver,
-        1,
+        Choice::Turbos,
         b"L of profile 5, whole",
         b"L of profile 5, slices of 1024",
     );

@@ -1,9 +1,8 @@
 // Whole blocks of bytes, held against a list of the second computation over symbols, and single addresses, against one over what they count.
 use crate::count::Count;
-use crate::num::{differ, least, short, sum, weigh};
+use crate::num::{differ, short, sum, weigh, weight, wrong_numbers};
 use second::num::{at, over, times};
 use sets::Set;
-use tables::Moved;
 use walks::Found;
 
 // Byte t of the input: never 0. The low and the high byte together tell t.
@@ -15,76 +14,16 @@ fn sample(high: bool, t: usize) -> u8 {
 }
 
 fn samples(high: bool, src: &mut [u8]) {
-    let mut t = 0;
-    while t < src.len() {
-        src[t] = sample(high, t);
-        t += 1;
+    for (t, b) in src.iter_mut().enumerate() {
+        *b = sample(high, t);
     }
 }
 
-fn clear(dst: &mut [u8]) {
-    let mut t = 0;
-    while t < dst.len() {
-        dst[t] = 0;
-        t += 1;
-    }
-}
-
-fn octet(b: u8) -> usize {
-    b as usize
-}
-
-fn byte(s: &[u8], i: usize) -> usize {
-    if i < s.len() {
-        return octet(s[i]);
-    }
-    0
-}
-
-// How many outputs t are not the input that the list has at t.
-fn wrong_outputs(list: &[u16], src: &[u8], dst: &[u8]) -> u64 {
-    let mut wrong: u64 = 0;
-    let mut t = 0;
-    while t < dst.len() {
-        wrong = sum(wrong, differ(byte(dst, t), byte(src, at(list, t))));
-        t += 1;
-    }
-    wrong
-}
-
-fn wrong_bytes(src: &[u8], dst: &[u8]) -> u64 {
-    let mut wrong: u64 = 0;
-    let mut t = 0;
-    while t < dst.len() {
-        wrong = sum(wrong, differ(byte(dst, t), byte(src, t)));
-        t += 1;
-    }
-    wrong
-}
-
+// How many outputs are not the inputs that the list has for them, and how many bytes that came back are not what they were.
 fn wrong_block(list: &[u16], src: &[u8], dst: &[u8], again: &[u8]) -> u64 {
-    sum(wrong_outputs(list, src, dst), wrong_bytes(src, again))
-}
-
-fn weight(dst: &[u8]) -> u64 {
-    let mut all: u64 = 0;
-    let mut t = 0;
-    while t < dst.len() {
-        all = sum(all, weigh(t, byte(dst, t)));
-        t += 1;
-    }
-    all
-}
-
-fn refused(m: Moved) -> u64 {
-    match m {
-        Moved::Done => 0,
-        Moved::Refused(_) => 1,
-    }
-}
-
-fn one_if(b: bool) -> u64 {
-    if b { 1 } else { 0 }
+    let there = wrong_numbers(dst, |t| at(src, at(list, t)));
+    let back = wrong_numbers(again, |t| at(src, t));
+    sum(there, back)
 }
 
 // A block there and back.
@@ -97,19 +36,19 @@ fn block(
     again: &mut [u8],
 ) -> Count {
     samples(high, src);
-    clear(dst);
-    clear(again);
-    let first = refused(blocks::bytes::interleave(set, src, dst));
-    let second = refused(blocks::bytes::deinterleave(set, dst, again));
-    let wrong = wrong_block(list, src, dst, again);
+    dst.fill(0);
+    again.fill(0);
+    let first = blocks::interleave(set, src, dst);
+    let second = blocks::deinterleave(set, dst, again);
+    let refused = u64::from(first.is_err()) + u64::from(second.is_err());
     Count {
-        sets: one_if(!high),
+        sets: u64::from(!high),
         calls: 2,
         addresses: dst.len() as u64,
         cells: 0,
         padding: 0,
-        weight: weight(dst),
-        differences: sum(wrong, sum(first, second)),
+        weight: weight(0, dst),
+        differences: sum(wrong_block(list, src, dst, again), refused),
     }
 }
 
@@ -123,7 +62,7 @@ pub fn block_of(
     again: &mut [u8],
 ) -> Count {
     let n = tables::symbols_of(set);
-    if least(src.len(), least(dst.len(), again.len())) < n {
+    if src.len().min(dst.len()).min(again.len()) < n {
         return Count::wrong(1);
     }
     block(
@@ -138,10 +77,7 @@ pub fn block_of(
 
 // The address that was found; a refusal is none that is looked for.
 fn found(f: Found) -> usize {
-    match f {
-        Found::At(x) => x as usize,
-        Found::Refused(_) => 65535,
-    }
+    f.map_or(65535, |x| x as usize)
 }
 
 // The i-th of twenty positions, from 0 to N - 1, with its address, and that address back.
@@ -155,7 +91,7 @@ fn single(set: Set, list: &[u16], i: usize) -> Count {
     let there = found(walks::address_l(set, short(t)));
     let back = found(walks::address_m(set, short(a)));
     Count {
-        sets: one_if(i == 0),
+        sets: u64::from(i == 0),
         calls: 2,
         addresses: 2,
         cells: 0,
@@ -166,11 +102,9 @@ fn single(set: Set, list: &[u16], i: usize) -> Count {
 }
 
 pub fn singles(set: Set, list: &[u16]) -> Count {
-    let mut c = Count::none();
-    let mut i = 0;
-    while i < 20 {
+    let mut c = Count::default();
+    for i in 0..20 {
         c = c.with(single(set, list, i));
-        i += 1;
     }
     c
 }

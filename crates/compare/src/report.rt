@@ -32,7 +32,7 @@ fn figures(f: Figures, s: Sides, w: Whole) -> Count {
 
 // One K, against the list of K + `off`.
 fn one(k: u32, off: u32) -> Count {
-    let n = std::num::wrapping_add_u32(k, off);
+    let n = k.wrapping_add(off);
     let mut list = [0u16; 12288];
     let w = second::list_of(Way::Interleaver, turbo_set(n), &mut list);
     match wcdma_report::figures_of(k) {
@@ -41,13 +41,11 @@ fn one(k: u32, off: u32) -> Count {
     }
 }
 
-// Every K from the first on and below the end.
-fn sizes(first: u32, end: u32, off: u32) -> Count {
-    let mut c = Count::none();
-    let mut k = first;
-    while k < end {
+// Every K from the first to the last.
+fn sizes(first: u32, last: u32, off: u32) -> Count {
+    let mut c = Count::default();
+    for k in first..=last {
         c = c.with(one(k, off));
-        k += 1;
     }
     c
 }
@@ -80,18 +78,16 @@ fn range(first: u32, last: u32, c: Count) -> Count {
 
 // The sizes from a first K to a last, their totals, and those from 40 to the last.
 fn stretch(first: u32, last: u32, off: u32, so_far: Count) -> Count {
-    let here = sizes(first, std::num::wrapping_add_u32(last, 1), off);
+    let here = sizes(first, last, off);
     let c = so_far.with(here);
     c.with(range(first, last, here)).with(range(40, last, c))
 }
 
 // 145 times 35 sizes: 40 to 5,114.
 fn each(off: u32) -> Count {
-    let mut c = Count::none();
-    let mut i = 0;
-    while i < 145 {
+    let mut c = Count::default();
+    for i in 0..145 {
         c = stretch(i * 35 + 40, i * 35 + 74, off, c);
-        i += 1;
     }
     c
 }

@@ -1,10 +1,10 @@
 // A walk in slices, held against a whole list of the second computation.
 use crate::count::Count;
-use crate::num::{differ, least, sum, weigh};
+use crate::num::{differ, sum, weight, wrong_numbers};
 use laws::Way;
 use second::num::{at, minus, plus};
 use second::{ENDS, Whole};
-use walks::{Walk, Walked};
+use walks::{Values, Walk};
 
 // A walk part way: its record, how many addresses it has given, whether it is over, and what was counted.
 #[derive(Clone, Copy)]
@@ -13,28 +13,6 @@ pub struct Going {
     pub given: usize,
     pub over: bool,
     pub count: Count,
-}
-
-// How many of the first n addresses of the slice are not those of the list from a place on.
-fn wrong_addresses(list: &[u16], from: usize, slice: &[u16], n: usize) -> u64 {
-    let mut wrong: u64 = 0;
-    let mut i = 0;
-    while i < n {
-        wrong = sum(wrong, differ(at(slice, i), at(list, plus(from, i))));
-        i += 1;
-    }
-    wrong
-}
-
-// The weight of the first n addresses of the slice, which stand in the list from a place on.
-fn weight(from: usize, slice: &[u16], n: usize) -> u64 {
-    let mut all: u64 = 0;
-    let mut i = 0;
-    while i < n {
-        all = sum(all, weigh(plus(from, i), at(slice, i)));
-        i += 1;
-    }
-    all
 }
 
 // The cell that a call must stop at: right after the address that fills the slice, or the total.
@@ -47,27 +25,21 @@ fn due_cell(w: Whole, list: &[u16], given: usize, room: usize) -> usize {
 }
 
 // What one call answered: its addresses, how many, the cell it stopped at, the cells examined.
-fn judge(
-    w: Whole,
-    now: Going,
-    next: Walk,
-    n: usize,
-    cells: usize,
-    list: &[u16],
-    slice: &[u16],
-) -> Going {
-    let walk = now.walk;
+fn judge(w: Whole, now: Going, values: Values, list: &[u16], slice: &[u16]) -> Going {
     let given = now.given;
-    let cell = next.cell as usize;
     let room = slice.len();
-    let wrong = sum(
+    let n = values.written as usize;
+    let cells = values.cells as usize;
+    let cell = values.next.cell as usize;
+    let told = slice.get(..n).unwrap_or(slice);
+    let differences = sum(
         sum(
-            wrong_addresses(list, given, slice, n),
-            differ(n, least(room, minus(w.addresses, given))),
+            wrong_numbers(told, |i| at(list, plus(given, i))),
+            differ(n, room.min(minus(w.addresses, given))),
         ),
         sum(
             differ(cell, due_cell(w, list, given, room)),
-            differ(plus(walk.cell as usize, cells), cell),
+            differ(plus(now.walk.cell as usize, cells), cell),
         ),
     );
     let more = Count {
@@ -76,49 +48,38 @@ fn judge(
         addresses: n as u64,
         cells: cells as u64,
         padding: minus(cells, n) as u64,
-        weight: weight(given, slice, n),
-        differences: wrong,
+        weight: weight(given, told),
+        differences,
     };
-    let count = now.count.with(more);
     Going {
-        walk: next,
+        walk: values.next,
         given: plus(given, n),
         over: w.cells <= cell,
-        count,
+        count: now.count.with(more),
     }
 }
 
 // The next slice; a refusal is a difference, and the end.
 fn step(way: Way, w: Whole, now: Going, list: &[u16], slice: &mut [u16]) -> Going {
-    let walk = now.walk;
-    let answer = walks::walk_by(way, walk, slice);
-    match answer {
-        Walked::Refused(_) => {
-            let count = now.count.with(Count::wrong(1));
-            Going {
-                walk,
-                given: now.given,
-                over: true,
-                count,
-            }
-        }
-        Walked::Done {
-            written,
-            next,
-            cells,
-        } => judge(w, now, next, written as usize, cells as usize, list, slice),
+    match walks::walk_by(way, now.walk, slice) {
+        Ok(values) => judge(w, now, values, list, slice),
+        Err(_) => Going {
+            over: true,
+            count: now.count.with(Count::wrong(1)),
+            ..now
+        },
     }
 }
 
 fn begin(w: Whole) -> Going {
-    let set = w.set;
-    let walk = Walk { set, cell: 0 };
-    let count = Count::none();
     Going {
-        walk,
+        walk: Walk {
+            set: w.set,
+            cell: 0,
+        },
         given: 0,
         over: false,
-        count,
+        count: Count::default(),
     }
 }
 
@@ -126,7 +87,7 @@ fn begin(w: Whole) -> Going {
 fn end(w: Whole, now: Going) -> Count {
     let c = now.count;
     let set = w.set;
-    let wrong = sum(
+    let differences = sum(
         sum(
             differ(c.addresses as usize, w.addresses),
             differ(c.cells as usize, w.cells),
@@ -143,7 +104,7 @@ fn end(w: Whole, now: Going) -> Count {
         cells: 0,
         padding: 0,
         weight: 0,
-        differences: wrong,
+        differences,
     };
     c.with(more)
 }
@@ -151,13 +112,11 @@ fn end(w: Whole, now: Going) -> Count {
 // Slices of the length of the one that is lent, until the walk is over.
 fn run(way: Way, w: Whole, list: &[u16], slice: &mut [u16]) -> Count {
     let mut now = begin(w);
-    let mut turns: usize = 0;
-    while turns < 6144 {
+    for _ in 0..6144 {
         now = step(way, w, now, list, slice);
         if now.over {
             return end(w, now);
         }
-        turns += 1;
     }
     Count::wrong(1)
 }

@@ -1,5 +1,5 @@
 // Walks against lists that are wrong on purpose: what is counted here is in no total.
-use crate::chosen::turbo_set;
+use crate::chosen::{Choice, turbo_set};
 use crate::count;
 use crate::lists::{Made, walk_each, walk_one};
 use laws::Way;
@@ -12,7 +12,7 @@ pub fn one_off(system: System) {
     let c = walk_one(
         Way::Interleaver,
         turbo_set(40),
-        0,
+        None,
         Made::Off,
         &mut list,
         &mut slice,
@@ -21,10 +21,10 @@ pub fn one_off(system: System) {
 }
 
 // Every set of a choice.
-fn against(system: System, way: Way, choice: u32, made: Made, title: &[u8]) {
+fn against(system: System, way: Way, choice: Choice, made: Made, title: &[u8]) {
     let mut list = [0u16; 12288];
     let mut slice = [0u16; 6144];
-    let c = walk_each(way, choice, 0, made, &mut list, &mut slice);
+    let c = walk_each(way, choice, None, made, &mut list, &mut slice);
     count::walks_line(system, title, c);
 }
 
@@ -34,35 +34,35 @@ pub fn walks(system: System) {
     against(
         system,
         Way::Interleaver,
-        1,
+        Choice::Turbos,
         Made::Unexchanged,
         b"wrong on purpose, L of profile 5 without the exchange, the sizes that it touches",
     );
     against(
         system,
         Way::Interleaver,
-        3,
+        Choice::Spatials,
         Made::Unturned,
         b"wrong on purpose, L of profiles 6 and 7 not turned, the sets that are",
     );
     against(
         system,
         Way::Deinterleaver,
-        3,
+        Choice::Spatials,
         Made::Unturned,
         b"wrong on purpose, M of profiles 6 and 7 not turned, the sets that are",
     );
     against(
         system,
         Way::Interleaver,
-        4,
+        Choice::Listed,
         Made::Unsquared,
         b"wrong on purpose, L of profile 8 with t for its square",
     );
     against(
         system,
         Way::Interleaver,
-        6,
+        Choice::EveryCouple,
         Made::Misprinted,
         b"wrong on purpose, L of profile 9 with P1 in the third case",
     );

@@ -15,13 +15,8 @@ pub struct Seen {
 // branches one is.
 fn place(kind: u32, a: usize) -> u64 {
     let branches = standards::branches(kind);
-    let mut u = a as u64;
-    let mut left = standards::queue(kind, branches - 1 - standards::rest(a, branches));
-    while left > 0 {
-        u = plus(u, branches as u64);
-        left -= 1;
-    }
-    u
+    let queue = standards::queue(kind, branches - 1 - standards::rest(a, branches));
+    plus(a as u64, queue.wrapping_mul(branches) as u64)
 }
 
 // Byte t of a channel with a burst of n bytes from byte `at` on.
@@ -37,28 +32,14 @@ fn sent(at: usize, n: usize, t: usize) -> u8 {
 
 // The channel.
 pub fn channel(at: usize, n: usize, input: &mut [u8]) {
-    let mut t = 0;
-    while t < input.len() {
-        input[t] = sent(at, n, t);
-        t += 1;
+    for (t, b) in input.iter_mut().enumerate() {
+        *b = sent(at, n, t);
     }
 }
 
 // How far place t is behind the last, of which there may be none.
-fn behind(t: usize, last: usize) -> u64 {
-    if last < t {
-        (t - last) as u64
-    } else {
-        u64::MAX
-    }
-}
-
-fn least(a: u64, b: u64) -> u64 {
-    if a < b { a } else { b }
-}
-
-fn one_if(wrong: bool) -> u64 {
-    if wrong { 1 } else { 0 }
+fn behind(t: usize, last: Option<usize>) -> u64 {
+    last.map_or(u64::MAX, |l| t.saturating_sub(l) as u64)
 }
 
 impl Seen {
@@ -71,14 +52,14 @@ impl Seen {
     }
 
     // Byte i of the burst from byte `at` on, at place t, and the one before it in the output at the last.
-    fn with(self, kind: u32, at: usize, i: u8, t: usize, last: usize) -> Self
+    fn with(self, kind: u32, at: usize, i: u8, t: usize, last: Option<usize>) -> Self
         requires { at ≤ 104 }
     {
         let a = at + i as usize;
         Seen {
             found: plus(self.found, 1),
-            wrong: plus(self.wrong, one_if(place(kind, a) != t as u64)),
-            nearest: least(self.nearest, behind(t, last)),
+            wrong: plus(self.wrong, u64::from(place(kind, a) != t as u64)),
+            nearest: self.nearest.min(behind(t, last)),
         }
     }
 
@@ -87,15 +68,12 @@ impl Seen {
         requires { at ≤ 104 }
     {
         let mut seen = self;
-        let mut last = usize::MAX;
-        let mut t = 0;
-        while t < out.len() {
-            let v = out[t];
-            if v > 0 {
-                seen = seen.with(kind, at, v - 1, t, last);
-                last = t;
+        let mut last = None;
+        for (t, v) in out.iter().enumerate() {
+            if *v > 0 {
+                seen = seen.with(kind, at, *v - 1, t, last);
+                last = Some(t);
             }
-            t += 1;
         }
         seen
     }

@@ -5,29 +5,16 @@ use super::standards;
 use super::tally::Tally;
 use kinds::Stream;
 use laws::Way;
-use streams::{Answer, Said};
-
-fn shorter(a: usize, b: usize) -> usize
-    ensures { (result ≤ a) × (result ≤ b) }
-{
-    if a < b { a } else { b }
-}
+use streams::Answer;
 
 // The length of call k, from 0 up, each fourth a long one; never more than is left.
 fn length_of(k: usize, left: usize) -> usize
     ensures { result ≤ left }
 {
     if k % 4 == 3 {
-        return shorter(k % 300 * 4, left);
+        return left.min(k % 300 * 4);
     }
-    shorter(k % 29, left)
-}
-
-fn refusal(said: Said) -> u32 {
-    match said {
-        Ok(()) => 0,
-        Err(k) => k,
-    }
+    left.min(k % 29)
 }
 
 // The way of the k-th call that is to be refused.
@@ -46,31 +33,18 @@ fn no_kind(k: usize) -> u32 {
 // The record of the k-th call that is to be refused: of an unknown kind, at the branch behind the last, with the place of one ring after the other at
 // its limit, or the machine's own.
 fn asked(k: usize, s: Stream) -> Stream {
-    let places = s.places;
-    if k % 5 == 1 {
-        return Stream {
+    match k % 5 {
+        1 => Stream {
             kind: no_kind(k),
-            branch: s.branch,
-            places,
-        };
-    }
-    if k % 5 == 2 {
-        return Stream {
-            kind: s.kind,
+            ..s
+        },
+        2 => Stream {
             branch: standards::branches(s.kind) as u32,
-            places,
-        };
+            ..s
+        },
+        3 => standards::misplaced(s, k / 5 % 51 + 1),
+        _ => s,
     }
-    if k % 5 == 3 {
-        return standards::misplaced(s, k / 5 % 51 + 1);
-    }
-    s
-}
-
-fn without_last(n: usize) -> usize
-    ensures { result ≤ n }
-{
-    if n == 0 { 0 } else { n - 1 }
 }
 
 // The k-th call that is to be refused, of either way: the store is a byte short, or the input is. An unknown kind is told before the one, and a
@@ -78,8 +52,8 @@ fn without_last(n: usize) -> usize
 fn refused(k: usize, s: Stream, store: &mut [u8], input: &[u8], out: &mut [u8]) -> Answer {
     let way = way_of(k);
     let record = asked(k, s);
-    let short = without_last(store.len());
-    let less = without_last(input.len());
+    let short = store.len().saturating_sub(1);
+    let less = input.len().saturating_sub(1);
     if k % 5 < 2 {
         return streams::feed(way, record, &mut store[..short], input, out);
     }
@@ -88,31 +62,15 @@ fn refused(k: usize, s: Stream, store: &mut [u8], input: &[u8], out: &mut [u8]) 
 
 // The record after it: a refused call hands its own back as it came, and what was wrong with it is put right.
 fn kept(k: usize, handed: Stream, s: Stream) -> Stream {
-    let mut places = handed.places;
-    let own = s.places;
+    let mut put_right = handed;
     let x = k / 5 % 51;
-    if k % 5 == 3 {
-        places[x] = own[x];
+    match k % 5 {
+        1 => put_right.kind = s.kind,
+        2 => put_right.branch = s.branch,
+        3 => put_right.places[x] = s.places[x],
+        _ => {}
     }
-    if k % 5 == 1 {
-        return Stream {
-            kind: s.kind,
-            branch: handed.branch,
-            places,
-        };
-    }
-    if k % 5 == 2 {
-        return Stream {
-            kind: handed.kind,
-            branch: s.branch,
-            places,
-        };
-    }
-    Stream {
-        kind: handed.kind,
-        branch: handed.branch,
-        places,
-    }
+    put_right
 }
 
 // A machine part way: its record, how many bytes it took, and its tally.
@@ -126,18 +84,15 @@ pub struct Going {
 // The k-th call that is done.
 fn step(way: Way, k: usize, now: Going, store: &mut [u8], input: &[u8], out: &mut [u8]) -> Going {
     let s = now.s;
-    let all = shorter(input.len(), out.len());
-    let at = shorter(now.at, all);
+    let all = input.len().min(out.len());
+    let at = now.at.min(all);
     let n = length_of(k, all - at);
     let e = at + n;
     let got = streams::feed(way, s, store, &input[at..e], &mut out[at..e]);
-    let said = got.said;
-    let next = got.stream;
-    let tally = now.tally.add(refusal(said), n as u64);
     Going {
-        s: next,
+        s: got.stream,
         at: e,
-        tally,
+        tally: now.tally.add(got.said, n as u64),
     }
 }
 
@@ -146,10 +101,8 @@ fn turn(way: Way, k: usize, now: Going, store: &mut [u8], input: &[u8], out: &mu
     let s = now.s;
     let at = now.at;
     let got = refused(k, s, store, input, out);
-    let said = got.said;
-    let handed = got.stream;
-    let tally = now.tally.add(refusal(said), 0);
-    let own = kept(k, handed, s);
+    let own = kept(k, got.stream, s);
+    let tally = now.tally.add(got.said, 0);
     step(way, k, Going { s: own, at, tally }, store, input, out)
 }
 
@@ -162,12 +115,10 @@ pub fn run(
     input: &[u8],
     out: &mut [u8],
 ) -> Tally {
-    let tally = Tally::none();
+    let tally = Tally::default();
     let mut now = Going { s, at: 0, tally };
-    let mut k = from % 100;
-    while k < 300 {
+    for k in from % 100..300 {
         now = turn(way, k, now, store, input, out);
-        k += 1;
     }
     now.tally
 }

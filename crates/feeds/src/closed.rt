@@ -12,12 +12,6 @@ pub enum Path {
     Both,
 }
 
-fn wide(b: u8) -> u64
-    ensures { result ≤ 255 }
-{
-    b as u64
-}
-
 // Byte t of the input.
 fn sample(t: usize) -> u8 {
     let n = t % 40000;
@@ -25,10 +19,8 @@ fn sample(t: usize) -> u8 {
 }
 
 pub fn samples(input: &mut [u8]) {
-    let mut t = 0;
-    while t < input.len() {
-        input[t] = sample(t);
-        t += 1;
+    for (t, b) in input.iter_mut().enumerate() {
+        *b = sample(t);
     }
 }
 
@@ -48,35 +40,18 @@ fn rings(path: Path, branches: usize, branch: usize, t: usize) -> usize
 // The byte that must come out at place t.
 fn due(kind: u32, path: Path, branch: usize, input: &[u8], t: usize, f: u8) -> u8 {
     let x = rings(path, standards::branches(kind), branch, t);
-    let late = standards::delay(kind, x);
-    if t < late {
-        return f;
-    }
-    if t - late < input.len() {
-        return input[t - late];
-    }
-    f
+    let from = t.checked_sub(standards::delay(kind, x));
+    from.and_then(|u| input.get(u)).copied().unwrap_or(f)
 }
 
 // How many bytes of out are not what they must be.
 pub fn differences(kind: u32, path: Path, branch: usize, input: &[u8], out: &[u8], f: u8) -> u64 {
-    let mut wrong: u64 = 0;
-    let mut t = 0;
-    while t < out.len() {
-        if out[t] != due(kind, path, branch, input, t, f) {
-            wrong = std::num::wrapping_add_u64(wrong, 1);
-        }
-        t += 1;
-    }
-    wrong
+    out.iter()
+        .enumerate()
+        .filter(|(t, b)| **b != due(kind, path, branch, input, *t, f))
+        .count() as u64
 }
 
 pub fn checksum(out: &[u8]) -> u64 {
-    let mut sum: u64 = 0;
-    let mut t = 0;
-    while t < out.len() {
-        sum = (sum % 65521 * 31 + wide(out[t])) % 65521;
-        t += 1;
-    }
-    sum
+    out.iter().fold(0, |sum: u64, b| (sum % 65521 * 31 + u64::from(*b)) % 65521)
 }

@@ -20,7 +20,7 @@ use system::System;
 use tally::Tally;
 
 fn plus(a: u64, b: u64) -> u64 {
-    std::num::wrapping_add_u64(a, b)
+    a.wrapping_add(b)
 }
 
 // How a machine begins: from a start or in the middle, with a store full of f.
@@ -182,11 +182,8 @@ fn burst(kind: u32, at: usize, n: usize, seen: Seen) -> Seen
 // Bursts of n bytes, from each byte of two turns on.
 fn spread(system: System, kind: u32, n: usize) {
     let mut seen = Seen::none();
-    let end = standards::branches(kind) * 2;
-    let mut at = 0;
-    while at < end {
+    for at in 0..standards::branches(kind) * 2 {
         seen = burst(kind, at, n, seen);
-        at += 1;
     }
     tell_spread(system, kind, n, seen);
 }

@@ -68,10 +68,8 @@ pub fn later_branch(kind: u32) -> usize
 // A record that stands there, with each place near its end.
 pub fn middle(kind: u32) -> Stream {
     let mut places = [0u32; 51];
-    let mut i = 0;
-    while i < 51 {
-        places[i] = high(kind, i + 1);
-        i += 1;
+    for (i, place) in places.iter_mut().enumerate() {
+        *place = high(kind, i + 1);
     }
     Stream {
         kind,
@@ -86,9 +84,5 @@ pub fn misplaced(s: Stream, x: usize) -> Stream
 {
     let mut places = s.places;
     places[x - 1] = limit(s.kind, x);
-    Stream {
-        kind: s.kind,
-        branch: s.branch,
-        places,
-    }
+    Stream { places, ..s }
 }

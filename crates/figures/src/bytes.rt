@@ -1,5 +1,5 @@
 // The bytes of a file that an argument names. Whatever fails is said, with the path.
-use super::Got;
+use files::FileError;
 use lines::append;
 use std::io::Error;
 use system::System;
@@ -17,33 +17,37 @@ fn fail(system: System, what: &[u8], path: &[u8], e: Error) {
 }
 
 // Says that an argument is no path.
-fn unnamed(system: System) -> Got {
+fn unnamed(system: System) {
     let _ = system.tell(b"interleaver: expected FILE, a path of 1 to 1,024 bytes\n");
-    Got::Failed
+}
+
+// Says why no bytes came of a path.
+fn say(system: System, path: &[u8], e: FileError) {
+    match e {
+        FileError::Unread(e) => fail(system, b"interleaver: reading ", path, e),
+        FileError::Unopened(e) => fail(system, b"interleaver: opening ", path, e),
+        FileError::Unnamed => unnamed(system),
+    }
 }
 
 // Reads the file at a path, as far as there is room.
-fn read_path(system: System, path: &[u8], room: &mut [u8]) -> Got {
+fn read_path(system: System, path: &[u8], room: &mut [u8]) -> Option<usize> {
     match files::read_path(system, path, room) {
-        files::Got::Of(k) => Got::Of(k),
-        files::Got::Unread(e) => {
-            fail(system, b"interleaver: reading ", path, e);
-            Got::Failed
+        Ok(k) => Some(k),
+        Err(e) => {
+            say(system, path, e);
+            None
         }
-        files::Got::Unopened(e) => {
-            fail(system, b"interleaver: opening ", path, e);
-            Got::Failed
-        }
-        files::Got::Unnamed => unnamed(system),
     }
 }
 
 // Reads the file that argument i names, as far as there is room.
-pub(super) fn read(system: System, i: usize, room: &mut [u8]) -> Got {
+pub(super) fn read(system: System, i: usize, room: &mut [u8]) -> Option<usize> {
     let mut path = [0u8; files::PATH];
     let k = system.arg(i, &mut path);
     if k == 0 {
-        return unnamed(system);
+        unnamed(system);
+        return None;
     }
     read_path(system, &path[..k], room)
 }

@@ -1,9 +1,9 @@
 // An f32 in decimal, exactly: it is a whole number of 24 bits, doubled some times, or halved, which is to multiply it by 5 and to set the point one
 // place further left. That is done digit by digit. The text stands at the end of a room that is full of zeros before.
-ghost use Rattle.std.specs.Prelude.{◌≤◌, ◌<◌};
+ghost use Rattle.std.specs.Prelude.{◌≡◌, drop, ◌≤◌, ◌<◌};
 
 // The room of a text: the longest has a sign, a zero, the point and 149 decimals.
-pub const PLACES: usize = 160;
+const PLACES: usize = 160;
 
 // Where a number of 24 bits starts, which has 8 digits.
 const START: usize = 152;
@@ -43,7 +43,7 @@ fn parts_of(bits: u32) -> Scaled
     }
 }
 
-// The same with no halving of an even number: then there are as many decimals as halvings, and the last isn't 0.
+// The same with no halving of an even number: then there are as many decimals as halvings, and the last isn't 0. (By `while`: it ends at either of two.)
 fn reduced(s: Scaled) -> Scaled
     requires { (s.up ≤ 149) × (s.down ≤ 149) }
     ensures { (result.up ≤ 149) × (result.down ≤ 149) }
@@ -54,11 +54,7 @@ fn reduced(s: Scaled) -> Scaled
         whole /= 2;
         down -= 1;
     }
-    Scaled {
-        whole,
-        up: s.up,
-        down,
-    }
+    Scaled { whole, down, ..s }
 }
 
 // A digit times 5, or times 2.
@@ -76,9 +72,7 @@ fn digit(value: u32) -> u8 {
 // The digits of a number of 24 bits.
 fn spell(whole: u32, text: &mut [u8; PLACES]) {
     let mut rest = whole;
-    let mut i = PLACES;
-    while i > START {
-        i -= 1;
+    for i in (START..PLACES).rev() {
         text[i] = digit(rest);
         rest /= 10;
     }
@@ -87,9 +81,7 @@ fn spell(whole: u32, text: &mut [u8; PLACES]) {
 // The number from place `from` on, times 5 or 2.
 fn multiply(text: &mut [u8; PLACES], five: bool, from: usize) {
     let mut carry = 0;
-    let mut i = PLACES;
-    while i > from {
-        i -= 1;
+    for i in (from..PLACES).rev() {
         let v = product(text[i], five) + carry;
         text[i] = digit(v);
         carry = v / 10;
@@ -100,10 +92,7 @@ fn multiply(text: &mut [u8; PLACES], five: bool, from: usize) {
 fn multiply_times(text: &mut [u8; PLACES], five: bool, n: u32)
     requires { n ≤ 149 }
 {
-    let end = START - n as usize;
-    let mut from = START;
-    while from > end {
-        from -= 1;
+    for from in (START - n as usize..START).rev() {
         multiply(text, five, from);
     }
 }
@@ -113,11 +102,12 @@ fn start_of(text: &[u8; PLACES], point: usize) -> usize
     requires { (11 ≤ point) × (point ≤ 160) }
     ensures { (2 ≤ result) × (result < point) }
 {
-    let mut i = 2;
-    while i < point - 1 && text[i] == b'0' {
-        i += 1;
+    for i in 2..point - 1 {
+        if text[i] != b'0' {
+            return i;
+        }
     }
-    i
+    point - 1
 }
 
 // Sets the point, for which the whole part moves by one place. Answers where that starts then.
@@ -128,17 +118,14 @@ fn set_point(text: &mut [u8; PLACES], start: usize, point: usize) -> usize
     if point == PLACES {
         return start;
     }
-    let mut i = start;
-    while i < point {
-        text[i - 1] = text[i];
-        i += 1;
-    }
+    text[start - 1..point].rotate_left(1);
     text[point - 1] = b'.';
     start - 1
 }
 
 fn set_sign(text: &mut [u8; PLACES], start: usize, bits: u32) -> usize
     requires { (1 ≤ start) × (start ≤ 160) }
+    ensures { result ≤ 160 }
 {
     if bits < 2147483648 {
         return start;
@@ -148,7 +135,9 @@ fn set_sign(text: &mut [u8; PLACES], start: usize, bits: u32) -> usize
 }
 
 // The text of a number by its bits. Answers where it starts.
-fn spell_bits(bits: u32, text: &mut [u8; PLACES]) -> usize {
+fn spell_bits(bits: u32, text: &mut [u8; PLACES]) -> usize
+    ensures { result ≤ 160 }
+{
     let s = reduced(parts_of(bits));
     let point = PLACES - s.down as usize;
     spell(s.whole, text);
@@ -158,10 +147,30 @@ fn spell_bits(bits: u32, text: &mut [u8; PLACES]) -> usize {
     set_sign(text, start, bits)
 }
 
-// The text of x, in a room that is full of zeros. Answers where it starts. (No sum is a not-a-number: for one the text is empty.)
-pub fn spell_f32(x: f32, text: &mut [u8; PLACES]) -> usize {
-    if x != x {
-        return PLACES;
+// The text of an f32, which ends its room.
+#[derive(Clone, Copy)]
+pub struct Decimal {
+    room: [u8; PLACES],
+    start: usize,
+}
+
+impl Decimal {
+    // (No sum is a not-a-number: for one the text is empty.)
+    pub fn of(x: f32) -> Self {
+        let mut room = [b'0'; PLACES];
+        if x.is_nan() {
+            return Decimal {
+                room,
+                start: PLACES,
+            };
+        }
+        let start = spell_bits(x.to_bits(), &mut room);
+        Decimal { room, start }
     }
-    spell_bits(f32::to_bits(x), text)
+
+    pub fn text(&self) -> &[u8]
+        ensures { result.now ≡ drop self.now.start self.now.room }
+    {
+        self.room.get(self.start..).unwrap_or(&[])
+    }
 }

@@ -5,7 +5,7 @@ pub mod decimal; // decimal.rt: an f32 in decimal, exactly
 mod bytes; // bytes.rt: the bytes of a file
 mod values; // values.rt: the values of a reception, and which are there
 
-ghost use Rattle.std.specs.Prelude.{◌≡◌, min, ◌≤◌};
+ghost use Rattle.std.specs.Prelude.{◌≡◌, min, take, ◌≤◌};
 
 use sets::Set;
 use system::System;
@@ -15,11 +15,12 @@ pub const VALUES: usize = 6145;
 
 const BYTES: usize = 24580;
 
-// So many, or none, which has been said.
+// A reception: its values, which of them are there, and how many came, of which no more is looked at than tells whether they are too many.
 #[derive(Clone, Copy)]
-pub enum Got {
-    Of(usize),
-    Failed,
+pub struct Reception {
+    values: [f32; VALUES],
+    present: [u8; VALUES],
+    count: usize,
 }
 
 // N as a length, which no accepted set has above 6,144.
@@ -29,32 +30,40 @@ pub fn size_of(set: Set) -> usize
     if set.n <= 6144 { set.n as usize } else { 6144 }
 }
 
-fn decoded(
-    k: usize,
-    bytes: &[u8; BYTES],
-    received: &mut [f32; VALUES],
-    present: &mut [u8; VALUES],
-) -> Got
-    requires { k ≤ 6145 }
-{
-    values::decode(k, bytes, received, present);
-    Got::Of(k)
-}
+impl Reception {
+    // The values of some bytes, of n that are looked for.
+    fn of(bytes: &[u8; BYTES], k: usize, n: usize) -> Self
+        requires { n ≤ 6144 }
+    {
+        let mut values = [0.0f32; VALUES];
+        let mut present = [0u8; VALUES];
+        let count = values::count(k, n);
+        values::decode(count, bytes, &mut values, &mut present);
+        Reception {
+            values,
+            present,
+            count,
+        }
+    }
 
-// The reception in the file that argument i names: its values, which of them are there, and how many came, of which no more is looked at than tells whether
-// they are too many. Whatever fails is said.
-pub fn reception(
-    system: System,
-    set: Set,
-    i: usize,
-    received: &mut [f32; VALUES],
-    present: &mut [u8; VALUES],
-) -> Got {
-    let mut bytes = [0u8; BYTES];
-    let n = size_of(set);
-    let most = 4 * n + 4;
-    match bytes::read(system, i, &mut bytes[..most]) {
-        Got::Failed => Got::Failed,
-        Got::Of(k) => decoded(values::count(k, n), &bytes, received, present),
+    // The reception in the file that argument i names. Whatever fails is said.
+    pub fn read(system: System, set: Set, i: usize) -> Option<Self> {
+        let mut bytes = [0u8; BYTES];
+        let n = size_of(set);
+        let k = bytes::read(system, i, &mut bytes[..4 * n + 4])?;
+        Some(Reception::of(&bytes, k, n))
+    }
+
+    pub fn values(&self) -> &[f32]
+        ensures { result.now ≡ take self.now.count self.now.values }
+    {
+        self.values.get(..self.count).unwrap_or(&self.values)
+    }
+
+    // 1 for each value that is there, and 0 for each blank.
+    pub fn present(&self) -> &[u8]
+        ensures { result.now ≡ take self.now.count self.now.present }
+    {
+        self.present.get(..self.count).unwrap_or(&self.present)
     }
 }

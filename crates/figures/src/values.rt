@@ -5,21 +5,12 @@ ghost use Rattle.std.specs.Float.Ieee.{nan_bits};
 
 use super::{BYTES, VALUES};
 
-fn wide(b: u8) -> u32
-    ensures { result ≤ 255 }
-{
-    b as u32
-}
-
 // The bits of value t.
 fn bits_at(bytes: &[u8; BYTES], t: usize) -> u32
     requires { t < 6145 }
 {
     let i = 4 * t;
-    wide(bytes[i])
-        + 256 * wide(bytes[i + 1])
-        + 65536 * wide(bytes[i + 2])
-        + 16777216 * wide(bytes[i + 3])
+    u32::from_le_bytes([bytes[i], bytes[i + 1], bytes[i + 2], bytes[i + 3]])
 }
 
 // Whether bits are a not-a-number's: an exponent all of ones and a mantissa that isn't 0.
@@ -37,7 +28,7 @@ fn value_of(bits: u32) -> f32 {
 }
 
 fn presence_of(bits: u32) -> u8 {
-    if is_blank(bits) { 0 } else { 1 }
+    u8::from(!is_blank(bits))
 }
 
 // The first k values, and which of them are there.
@@ -49,12 +40,10 @@ pub(super) fn decode(
 )
     requires { k ≤ 6145 }
 {
-    let mut t = 0;
-    while t < k {
+    for t in 0..k {
         let bits = bits_at(bytes, t);
         received[t] = value_of(bits);
         present[t] = presence_of(bits);
-        t += 1;
     }
 }
 

@@ -1,5 +1,5 @@
 // Standard input to standard output: blocks of symbols, and byte streams. A turn of each loop is a function of its own, over slices that are
-// lent once. The loops over the input end by a budget that counts down from the largest u64, which no input meets; a
+// lent once. The loops over the input end by a budget of as many turns as the largest u64, which no input meets; a
 // block's, by its length.
 #![tactic(auto)]
 

@@ -5,18 +5,7 @@ use kinds::sizes::Sizes;
 use laws::Way;
 use system::System;
 
-// How a turn ended: whether to go on, and the record.
-#[derive(Clone, Copy)]
-struct Going {
-    on: bool,
-    stream: Stream,
-}
-
-fn stopped(stream: Stream) -> Going {
-    Going { on: false, stream }
-}
-
-// Passes what came through the machine, and writes it.
+// Passes what came through the machine, and writes it. Answers the record, where it goes on.
 fn send(
     system: System,
     way: Way,
@@ -24,18 +13,13 @@ fn send(
     store: &mut [u8],
     input: &[u8],
     out: &mut [u8],
-) -> Going {
+) -> Option<Stream> {
     let answer = streams::feed(way, s, store, input, out);
-    let said = answer.said;
-    let stream = answer.stream;
-    match said {
-        Ok(()) => Going {
-            on: write_out(system, out),
-            stream,
-        },
+    match answer.said {
+        Ok(()) => write_out(system, out).then_some(answer.stream),
         Err(number) => {
             refused(system, number, 0);
-            stopped(stream)
+            None
         }
     }
 }
@@ -48,14 +32,11 @@ fn turn(
     store: &mut [u8],
     room: &mut [u8],
     out: &mut [u8],
-) -> Going {
+) -> Option<Stream> {
     let n = read_some(system, room);
-    if n == 0 {
-        return stopped(s);
-    }
-    // (the two rooms are alike, so this is never so)
-    if n > out.len() {
-        return stopped(s);
+    // (the two rooms are alike, so that no more comes than goes out)
+    if n == 0 || n > out.len() {
+        return None;
     }
     send(system, way, s, store, &room[..n], &mut out[..n])
 }
@@ -68,14 +49,12 @@ fn turns(
     room: &mut [u8],
     out: &mut [u8],
 ) {
-    let mut now = Going {
-        on: true,
-        stream: first,
-    };
-    let mut left = u64::MAX;
-    while left > 0 && now.on {
-        left -= 1;
-        now = turn(system, way, now.stream, store, room, out);
+    let mut now = first;
+    for _ in 0..u64::MAX {
+        match turn(system, way, now, store, room, out) {
+            Some(next) => now = next,
+            None => return,
+        }
     }
 }
 
@@ -84,8 +63,7 @@ fn started(system: System, way: Way, kind: u32, fill: u8, store: &mut [u8]) {
     let mut room = io::large_buffer();
     let mut out = io::large_buffer();
     let answer = streams::start(kind, store, fill);
-    let said = answer.said;
-    match said {
+    match answer.said {
         Ok(()) => turns(system, way, answer.stream, store, &mut room, &mut out),
         Err(number) => refused(system, number, 0),
     }
@@ -93,12 +71,9 @@ fn started(system: System, way: Way, kind: u32, fill: u8, store: &mut [u8]) {
 
 // The same, with the store in the first bytes of a room, which has as many as any kind takes.
 fn in_room(system: System, way: Way, kind: u32, fill: u8, room: &mut [u8]) {
-    let n = Sizes::of(kind).store;
-    // (never so)
-    if n > room.len() {
-        return;
+    if let Some(store) = room.get_mut(..Sizes::of(kind).store) {
+        started(system, way, kind, fill, store);
     }
-    started(system, way, kind, fill, &mut room[..n]);
 }
 
 // `dvb interleave`, `atsc interleave` and the way back of each: the output is as long as the input.

@@ -1,8 +1,9 @@
 // The numbers of a command. A word that is no number is told, and the command does nothing.
+ghost use Rattle.std.specs.Prelude.{◌≤◌, IfSome};
+
 use super::names;
 use lines::word;
 use named::among;
-use numbers::Number;
 use sets::{Factors, Set};
 use system::System;
 
@@ -14,25 +15,11 @@ const OF_24: Factors = Factors {
     fourth: 0,
 };
 
-// A parameter set, or none, which has been told.
+// A burst: where it begins, and how many bytes it has.
 #[derive(Clone, Copy)]
-pub enum SetAsked {
-    Given(Set),
-    Wrong,
-}
-
-// The factors of a set, or none, which has been told.
-#[derive(Clone, Copy)]
-enum FactorsAsked {
-    Given(Factors),
-    Wrong,
-}
-
-// A burst, or none, which has been told.
-#[derive(Clone, Copy)]
-pub enum BurstAsked {
-    Given { at: u32, length: u32 },
-    Wrong,
+pub struct Burst {
+    pub at: u32,
+    pub length: u32,
 }
 
 fn wrong(system: System, name: &[u8], most: &[u8], got: &[u8]) {
@@ -46,9 +33,9 @@ fn wrong(system: System, name: &[u8], most: &[u8], got: &[u8]) {
 }
 
 // The number that some digits say, by its name; they stand in a word, which is told.
-pub fn read(system: System, digits: &[u8], name: &[u8], word: &[u8]) -> Number {
+pub fn read(system: System, digits: &[u8], name: &[u8], word: &[u8]) -> Option<u32> {
     let n = numbers::read(digits);
-    if let Number::Wrong = n {
+    if n.is_none() {
         wrong(system, name, b"4294967295", word);
     }
     n
@@ -60,7 +47,7 @@ pub fn plain(line: &[u8], i: usize) -> &[u8] {
 }
 
 // The number that it says, by its name.
-pub fn number(system: System, line: &[u8], i: usize, name: &[u8]) -> Number {
+pub fn number(system: System, line: &[u8], i: usize, name: &[u8]) -> Option<u32> {
     let w = plain(line, i);
     read(system, w, name, w)
 }
@@ -73,15 +60,14 @@ pub fn small_number(
     name: &[u8],
     most: u32,
     digits: &[u8],
-) -> Number {
-    let n = numbers::read(plain(line, i));
-    if let Number::Value(v) = n {
-        if v <= most {
-            return n;
-        }
+) -> Option<u32>
+    ensures { IfSome result (λ v. v ≤ most) }
+{
+    let n = numbers::read(plain(line, i)).filter(|v| *v <= most);
+    if n.is_none() {
+        wrong(system, name, digits, plain(line, i));
     }
-    wrong(system, name, digits, plain(line, i));
-    Number::Wrong
+    n
 }
 
 // LTE's own factors for a size, and none where it has no row: the test of the set says so then.
@@ -90,122 +76,81 @@ fn standard(n: u32) -> Factors {
 }
 
 // f1 and f2 that are named, together; or, where neither is, LTE's own for the size.
-fn pair(system: System, line: &[u8], n: u32) -> FactorsAsked {
-    if !(names::has(line, b"f1") | names::has(line, b"f2")) {
-        return FactorsAsked::Given(standard(n));
+fn pair(system: System, line: &[u8], n: u32) -> Option<Factors> {
+    if !names::has(line, b"f1") && !names::has(line, b"f2") {
+        return Some(standard(n));
     }
-    if !(names::has(line, b"f1") & names::has(line, b"f2")) {
+    if !names::has(line, b"f1") || !names::has(line, b"f2") {
         told::alone(system, b"f1", b"f2");
-        return FactorsAsked::Wrong;
+        return None;
     }
-    let Number::Value(first) = names::number(system, line, b"f1", 0) else {
-        return FactorsAsked::Wrong;
-    };
-    let Number::Value(second) = names::number(system, line, b"f2", 0) else {
-        return FactorsAsked::Wrong;
-    };
-    FactorsAsked::Given(Factors {
-        first,
-        second,
+    Some(Factors {
+        first: names::number(system, line, b"f1", 0)?,
+        second: names::number(system, line, b"f2", 0)?,
         third: 0,
         fourth: 0,
     })
 }
 
 // P0 to P3 where none is named: those that profile 9 has for N 24, and none for a profile that does not read them.
-fn own_four(system: System, set: Set) -> FactorsAsked {
+fn own_four(system: System, set: Set) -> Option<Factors> {
     if !sets::is_coupled(set) {
-        return FactorsAsked::Given(sets::NO_FACTORS);
+        return Some(sets::NO_FACTORS);
     }
     if set.n != 24 {
         told::needs_four(system);
-        return FactorsAsked::Wrong;
+        return None;
     }
-    FactorsAsked::Given(OF_24)
+    Some(OF_24)
 }
 
-// Whether some of P0 to P3 is named, and whether all are.
-fn has_any(line: &[u8]) -> bool {
-    (names::has(line, b"p0") | names::has(line, b"p1"))
-        | (names::has(line, b"p2") | names::has(line, b"p3"))
+// How many of P0 to P3 are named.
+fn named_of_four(line: &[u8]) -> usize {
+    let names: [&[u8]; 4] = [b"p0", b"p1", b"p2", b"p3"];
+    names.iter().filter(|name| names::has(line, name)).count()
 }
 
-fn has_all(line: &[u8]) -> bool {
-    (names::has(line, b"p0") & names::has(line, b"p1"))
-        & (names::has(line, b"p2") & names::has(line, b"p3"))
-}
-
-fn named_four(system: System, line: &[u8]) -> FactorsAsked {
-    let Number::Value(first) = names::number(system, line, b"p0", 0) else {
-        return FactorsAsked::Wrong;
-    };
-    let Number::Value(second) = names::number(system, line, b"p1", 0) else {
-        return FactorsAsked::Wrong;
-    };
-    let Number::Value(third) = names::number(system, line, b"p2", 0) else {
-        return FactorsAsked::Wrong;
-    };
-    let Number::Value(fourth) = names::number(system, line, b"p3", 0) else {
-        return FactorsAsked::Wrong;
-    };
-    FactorsAsked::Given(Factors {
-        first,
-        second,
-        third,
-        fourth,
+fn named_four(system: System, line: &[u8]) -> Option<Factors> {
+    Some(Factors {
+        first: names::number(system, line, b"p0", 0)?,
+        second: names::number(system, line, b"p1", 0)?,
+        third: names::number(system, line, b"p2", 0)?,
+        fourth: names::number(system, line, b"p3", 0)?,
     })
 }
 
 // P0 to P3 that are named, all four; or, where none is, those that are known.
-fn four(system: System, line: &[u8], set: Set) -> FactorsAsked {
-    if !has_any(line) {
-        return own_four(system, set);
+fn four(system: System, line: &[u8], set: Set) -> Option<Factors> {
+    match named_of_four(line) {
+        0 => own_four(system, set),
+        4 => named_four(system, line),
+        _ => {
+            told::some_of_four(system);
+            None
+        }
     }
-    if !has_all(line) {
-        told::some_of_four(system);
-        return FactorsAsked::Wrong;
-    }
-    named_four(system, line)
 }
 
 // A set that has f1 and f2, and P0 to P3 in their place where its profile reads those.
-fn with_four(system: System, line: &[u8], set: Set) -> SetAsked {
-    let FactorsAsked::Given(factors) = four(system, line, set) else {
-        return SetAsked::Wrong;
-    };
+fn with_four(system: System, line: &[u8], set: Set) -> Option<Set> {
+    let factors = four(system, line, set)?;
     if !sets::is_coupled(set) {
-        return SetAsked::Given(set);
+        return Some(set);
     }
-    SetAsked::Given(Set {
-        profile: set.profile,
-        bits: set.bits,
-        n: set.n,
-        stream: set.stream,
-        factors,
-    })
+    Some(Set { factors, ..set })
 }
 
 // PROFILE, which is word 1, BITS, N and the numbers that have names.
-pub fn set(system: System, line: &[u8]) -> SetAsked {
+pub fn set(system: System, line: &[u8]) -> Option<Set> {
     let w = word(line, 1);
-    let Number::Value(profile) = read(system, w, b"PROFILE", w) else {
-        return SetAsked::Wrong;
-    };
-    let Number::Value(bits) = number(system, line, 2, b"BITS") else {
-        return SetAsked::Wrong;
-    };
-    let Number::Value(n) = number(system, line, 3, b"N") else {
-        return SetAsked::Wrong;
-    };
+    let profile = read(system, w, b"PROFILE", w)?;
+    let bits = number(system, line, 2, b"BITS")?;
+    let n = number(system, line, 3, b"N")?;
     if !names::all_known(system, line) {
-        return SetAsked::Wrong;
+        return None;
     }
-    let Number::Value(stream) = names::number(system, line, b"stream", 1) else {
-        return SetAsked::Wrong;
-    };
-    let FactorsAsked::Given(factors) = pair(system, line, n) else {
-        return SetAsked::Wrong;
-    };
+    let stream = names::number(system, line, b"stream", 1)?;
+    let factors = pair(system, line, n)?;
     with_four(
         system,
         line,
@@ -220,17 +165,12 @@ pub fn set(system: System, line: &[u8]) -> SetAsked {
 }
 
 // AT, which is word i, and LENGTH, which is word k.
-pub fn burst(system: System, line: &[u8], i: usize, k: usize) -> BurstAsked {
-    let Number::Value(at) = number(system, line, i, b"AT") else {
-        return BurstAsked::Wrong;
-    };
-    let Number::Value(length) = small_number(system, line, k, b"LENGTH", bursts::LONGEST, b"1024")
-    else {
-        return BurstAsked::Wrong;
-    };
+pub fn burst(system: System, line: &[u8], i: usize, k: usize) -> Option<Burst> {
+    let at = number(system, line, i, b"AT")?;
+    let length = small_number(system, line, k, b"LENGTH", bursts::LONGEST, b"1024")?;
     if length == 0 {
         told::expected(system, b"LENGTH from 1 to 1024, the bytes of a burst");
-        return BurstAsked::Wrong;
+        return None;
     }
-    BurstAsked::Given { at, length }
+    Some(Burst { at, length })
 }

@@ -6,11 +6,9 @@ mod asked; // asked.rt: the numbers of a command
 mod commands; // commands.rt: the commands by name, and their form
 mod names; // names.rt: the numbers that have names
 
-use asked::{BurstAsked, SetAsked};
 use kinds::sizes::Sizes;
 use laws::Way;
 use lines::{ROOM, word};
-use numbers::Number;
 use system::System;
 use told::Command;
 use words::line::Line;
@@ -20,7 +18,7 @@ const MOST: usize = 8;
 
 // What a question on a set answers.
 fn answer(system: System, c: Command, line: &[u8]) {
-    let SetAsked::Given(set) = asked::set(system, line) else {
+    let Some(set) = asked::set(system, line) else {
         return;
     };
     match c {
@@ -29,12 +27,12 @@ fn answer(system: System, c: Command, line: &[u8]) {
         Command::Back => pages::lists::list(system, Way::Deinterleaver, set),
         Command::Picture => pages::picture::picture(system, set),
         Command::At => {
-            if let Number::Value(t) = asked::number(system, line, 4, b"T") {
+            if let Some(t) = asked::number(system, line, 4, b"T") {
                 pages::lists::one(system, Way::Interleaver, set, t);
             }
         }
         Command::To => {
-            if let Number::Value(k) = asked::number(system, line, 4, b"K") {
+            if let Some(k) = asked::number(system, line, 4, b"K") {
                 pages::lists::one(system, Way::Deinterleaver, set, k);
             }
         }
@@ -43,10 +41,10 @@ fn answer(system: System, c: Command, line: &[u8]) {
 }
 
 fn walk(system: System, set: sets::Set, line: &[u8]) {
-    let Number::Value(cell) = asked::number(system, line, 4, b"CELL") else {
+    let Some(cell) = asked::number(system, line, 4, b"CELL") else {
         return;
     };
-    let Number::Value(room) = asked::number(system, line, 5, b"ROOM") else {
+    let Some(room) = asked::number(system, line, 5, b"ROOM") else {
         return;
     };
     pages::lists::walk(system, set, cell, room);
@@ -54,14 +52,14 @@ fn walk(system: System, set: sets::Set, line: &[u8]) {
 
 // Blocks of symbols, standard input to output.
 fn move_blocks(system: System, way: Way, line: &[u8]) {
-    let SetAsked::Given(set) = asked::set(system, line) else {
+    let Some(set) = asked::set(system, line) else {
         return;
     };
-    if asked::plain(line, 4).len() == 0 {
+    if asked::plain(line, 4).is_empty() {
         filters::blocked::through(system, way, set, 1);
         return;
     }
-    let Number::Value(width) = asked::small_number(system, line, 4, b"WIDTH", 8, b"8") else {
+    let Some(width) = asked::small_number(system, line, 4, b"WIDTH", 8, b"8") else {
         return;
     };
     if width == 0 {
@@ -81,37 +79,33 @@ fn move_stream(system: System, kind: u32, line: &[u8]) {
 }
 
 fn fill_stream(system: System, way: Way, kind: u32, line: &[u8]) {
-    let Number::Value(fill) = asked::small_number(system, line, 2, b"FILL", 255, b"255") else {
+    let Some(fill) = asked::small_number(system, line, 2, b"FILL", 255, b"255") else {
         return;
     };
-    // (never so: asked again for the cast)
-    if fill > 255 {
-        return;
-    }
     filters::streamed::through(system, way, kind, fill as u8);
 }
 
 // A burst in the channel as a table.
 fn show_burst(system: System, kind: u32, line: &[u8]) {
-    if let BurstAsked::Given { at, length } = asked::burst(system, line, 2, 3) {
-        bursts::page::table(system, kind, at, length);
+    if let Some(b) = asked::burst(system, line, 2, 3) {
+        bursts::page::table(system, kind, b.at, b.length);
     }
 }
 
 // The same as a picture, whose numbers may be left out: then it is of a byte in each branch.
 fn draw_burst(system: System, kind: u32, line: &[u8]) {
-    if asked::plain(line, 3).len() == 0 {
+    if asked::plain(line, 3).is_empty() {
         bursts::picture::picture(system, kind, 0, Sizes::of(kind).branches as u32);
         return;
     }
-    if let BurstAsked::Given { at, length } = asked::burst(system, line, 3, 4) {
-        bursts::picture::picture(system, kind, at, length);
+    if let Some(b) = asked::burst(system, line, 3, 4) {
+        bursts::picture::picture(system, kind, b.at, b.length);
     }
 }
 
 // LTE's own factors for a size.
 fn show_factors(system: System, line: &[u8]) {
-    if let Number::Value(k) = asked::number(system, line, 1, b"K") {
+    if let Some(k) = asked::number(system, line, 1, b"K") {
         pages::lists::factors(system, k);
     }
 }
@@ -128,11 +122,11 @@ fn combine_first(system: System, room: &[u8; ROOM], n: usize) {
 }
 
 fn combine_by(system: System, line: &[u8]) {
-    if !(commands::in_form(Command::Combine, line) & receptions::in_form(system)) {
+    if !commands::in_form(Command::Combine, line) || !receptions::in_form(system) {
         told::usage(system, Command::Combine);
         return;
     }
-    if let SetAsked::Given(set) = asked::set(system, line) {
+    if let Some(set) = asked::set(system, line) {
         receptions::from_files(system, set);
     }
 }
@@ -152,9 +146,7 @@ fn ask(system: System, c: Command, line: &[u8]) {
 // Answers each line of standard input. An empty line asks nothing.
 fn answer_lines(system: System) {
     let mut room = [0u8; ROOM];
-    let mut turns = u64::MAX;
-    while turns > 0 {
-        turns -= 1;
+    for _ in 0..u64::MAX {
         match words::line::read(system, &mut room) {
             Line::Nothing => {
                 return;
@@ -170,7 +162,7 @@ fn answer_first(system: System, room: &[u8; ROOM], n: usize) {
 }
 
 fn answer_line(system: System, line: &[u8]) {
-    if word(line, 0).len() == 0 {
+    if word(line, 0).is_empty() {
         return;
     }
     let c = commands::command_of(line);

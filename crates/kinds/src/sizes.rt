@@ -1,4 +1,5 @@
-// The two kinds of machine by their numbers.
+// The two kinds of machine by their numbers. (No enum: a record may hold any number for its kind, and of one that is unknown the numbers are asked too,
+// so an enum would need a third variant, and would be made of the number at each question.)
 ghost use Rattle.std.specs.Prelude.{◌≡◌, ◌<◌};
 ghost use Rattle.delay.specs.Machine.{ring_of};
 ghost use Rattle.kinds.specs.Kinds.{Sized, sizes_of, known};

@@ -5,7 +5,6 @@ pub mod compared; // compared.rt: where two files differ
 pub mod judged; // judged.rt: each plan of a file
 pub mod written; // written.rt: the file of given sets
 
-use files::Got;
 use sets::Refusal;
 use system::{STDOUT_FILENO, System};
 
@@ -19,10 +18,5 @@ fn refused(system: System, x: Refusal) {
 
 // Reads the file that argument i names, and answers how many bytes came. Of a file that can't be read none did, and that is not of the form.
 fn read(system: System, i: usize, room: &mut [u8]) -> usize {
-    match files::read(system, i, room) {
-        Got::Of(n) => n,
-        Got::Unnamed => 0,
-        Got::Unopened(_) => 0,
-        Got::Unread(_) => 0,
-    }
+    files::read(system, i, room).unwrap_or(0)
 }

@@ -34,7 +34,8 @@ pub fn pass(branches: usize, from: usize, input: &[u8], out: &mut [u8])
 }
 
 // A stretch of count neighbouring places, from at on: byte from goes to the first of them, and each branches-th after it to the next. Returns the byte
-// that comes after them.
+// that comes after them. (What the loops are given is no struct: of seven things that `turn` hands on, three differ from stretch to stretch and three
+// are lent, and `stretch` puts a known number in place of the last.)
 fn moves(
     branches: usize,
     from: usize,

@@ -1,8 +1,7 @@
 // The turbo interleaver of IEEE 802.16, in couples of symbols: P(j) with a remainder after each number that is added; the symbols, of a block whose
 // couples are swapped first; and whether two outputs share a couple, by trying them.
-use crate::num::{at, minus, over, plus, put, rest, times};
-use crate::squares::clear;
-use crate::{ENDS, Whole};
+use crate::num::{minus, over, plus, put, rest, times};
+use crate::{Whole, listed, share};
 use sets::Set;
 
 // How many couples there are, and the four numbers.
@@ -28,13 +27,7 @@ fn four_of(set: Set) -> Four {
 
 // P1 in the third case too, as it is misprinted: wrong on purpose.
 fn misprint(k: Four) -> Four {
-    Four {
-        n: k.n,
-        p0: k.p0,
-        p1: k.p1,
-        p2: k.p1,
-        p3: k.p3,
-    }
+    Four { p2: k.p1, ..k }
 }
 
 // The number that the case of j has for itself.
@@ -54,28 +47,15 @@ fn couple(k: Four, j: usize) -> usize {
     rest(plus(rest(plus(even, half), k.n), own(k, j)), k.n)
 }
 
-fn list_by(set: Set, k: Four, list: &mut [u16]) -> Whole {
-    let mut j = 0;
-    while j < k.n {
-        put(list, j, couple(k, j));
-        put(list, plus(ENDS, j), plus(j, 1));
-        j += 1;
-    }
-    Whole {
-        set,
-        addresses: k.n,
-        cells: k.n,
-        padding: 0,
-    }
-}
-
 // L of an accepted set of profile 9, over couples.
 pub(super) fn list_of(set: Set, list: &mut [u16]) -> Whole {
-    list_by(set, four_of(set), list)
+    let k = four_of(set);
+    listed(set, list, |j| couple(k, j))
 }
 
 pub fn misprinted(set: Set, list: &mut [u16]) -> Whole {
-    list_by(set, misprint(four_of(set)), list)
+    let k = misprint(four_of(set));
+    listed(set, list, |j| couple(k, j))
 }
 
 // The other symbol of a couple.
@@ -96,12 +76,9 @@ fn swapped(odd: usize, s: usize) -> usize {
 
 // The input symbol of each of the 2N of the output.
 fn symbols_by(k: Four, odd: usize, list: &mut [u16]) {
-    let n = times(2, k.n);
-    let mut t = 0;
-    while t < n {
+    for t in 0..times(2, k.n) {
         let s = plus(times(2, couple(k, over(t, 2))), rest(t, 2));
         put(list, t, swapped(odd, s));
-        t += 1;
     }
 }
 
@@ -114,21 +91,8 @@ pub fn swapped_even(set: Set, list: &mut [u16]) {
     symbols_by(four_of(set), 0, list);
 }
 
-fn shares_by(k: Four, seen: &mut [u16]) -> bool {
-    clear(k.n, seen);
-    let mut j = 0;
-    while j < k.n {
-        let c = couple(k, j);
-        if at(seen, c) > 0 {
-            return true;
-        }
-        put(seen, c, 1);
-        j += 1;
-    }
-    false
-}
-
 // Whether two outputs below N share a couple. What has been seen is marked in a lent table with room for N.
-pub fn shares(n: usize, p0: usize, p1: usize, p2: usize, p3: usize, seen: &mut [u16]) -> bool {
-    shares_by(Four { n, p0, p1, p2, p3 }, seen)
+pub fn shares(set: Set, seen: &mut [u16]) -> bool {
+    let k = four_of(set);
+    share(k.n, seen, |j| couple(k, j))
 }

@@ -8,7 +8,7 @@ mod primes; // primes.rt: primes, the least primitive root, the next q
 pub mod squares; // squares.rt: the quadratic list of profile 8, and its positions tried
 mod turbo; // turbo.rt: the rectangle of profile 5
 
-use crate::num::{minus, over, plus, put, rest, times};
+use crate::num::{at, minus, over, plus, put, rest, times};
 use laws::Way;
 use sets::Set;
 
@@ -50,13 +50,11 @@ fn turn(set: Set) -> usize {
 }
 
 fn group(bits: u32) -> usize {
-    if bits == 6 {
-        return 3;
+    match bits {
+        6 => 3,
+        4 => 2,
+        _ => 1,
     }
-    if bits == 4 {
-        return 2;
-    }
-    1
 }
 
 // m = s·(t/s) + (t + d·t/N) mod s, then L(t) = d·m - (N - 1)·(d·m/N).
@@ -85,14 +83,14 @@ fn carrier(way: Way, set: Set, turn: usize, t: usize) -> usize {
     }
 }
 
-// L or M of a carrier set.
-fn carrier_list(way: Way, set: Set, turn: usize, list: &mut [u16]) -> Whole {
+// The list of a set of N addresses, each of its own cell: `address` at each place.
+fn listed<F: Fn(usize) -> usize>(set: Set, list: &mut [u16], address: F) -> Whole
+    requires { F.IsAlwaysCallable address }
+{
     let n = set.n as usize;
-    let mut t = 0;
-    while t < n {
-        put(list, t, carrier(way, set, turn, t));
+    for t in 0..n {
+        put(list, t, address(t));
         put(list, plus(ENDS, t), plus(t, 1));
-        t += 1;
     }
     Whole {
         set,
@@ -100,6 +98,28 @@ fn carrier_list(way: Way, set: Set, turn: usize, list: &mut [u16]) -> Whole {
         cells: n,
         padding: 0,
     }
+}
+
+// Whether two of the first n places share an address. What has been seen is marked in a table with room for n.
+fn share<F: Fn(usize) -> usize>(n: usize, seen: &mut [u16], address: F) -> bool
+    requires { F.IsAlwaysCallable address }
+{
+    for a in 0..n {
+        put(seen, a, 0);
+    }
+    for t in 0..n {
+        let a = address(t);
+        if at(seen, a) > 0 {
+            return true;
+        }
+        put(seen, a, 1);
+    }
+    false
+}
+
+// L or M of a carrier set.
+fn carrier_list(way: Way, set: Set, turn: usize, list: &mut [u16]) -> Whole {
+    listed(set, list, |t| carrier(way, set, turn, t))
 }
 
 // An address that is not padding is kept; gives how many are kept then.
@@ -112,27 +132,15 @@ fn keep(k: usize, a: usize, cell: usize, kept: usize, list: &mut [u16]) -> usize
     plus(kept, 1)
 }
 
-// The grid of a block, with the exchange or, for a list that is wrong on purpose, without it.
-fn grid_of(k: usize, exchange: bool, table: &mut [u16]) -> turbo::Grid {
-    let g = turbo::plan(k, table);
-    turbo::Grid {
-        r: g.r,
-        p: g.p,
-        c: g.c,
-        exchanges: g.exchanges & exchange,
-    }
-}
-
-// L of a set of profile 5, cell by cell.
-fn turbo_cells(set: Set, exchange: bool, table: &mut [u16], list: &mut [u16]) -> Whole {
+// L of a set of profile 5, cell by cell, with the exchange or, for a list that is wrong on purpose, without it.
+fn turbo_list(set: Set, exchange: bool, list: &mut [u16]) -> Whole {
     let k = set.n as usize;
-    let grid = grid_of(k, exchange, table);
+    let mut grid = turbo::plan(k);
+    grid.exchanges &= exchange;
     let cells = times(grid.r, grid.c);
     let mut kept = 0;
-    let mut cell = 0;
-    while cell < cells {
-        kept = keep(k, turbo::address(grid, table, cell), cell, kept, list);
-        cell += 1;
+    for cell in 0..cells {
+        kept = keep(k, turbo::address(&grid, cell), cell, kept, list);
     }
     Whole {
         set,
@@ -157,11 +165,6 @@ pub fn sides_of(k: usize) -> Sides {
     }
 }
 
-fn turbo_list(set: Set, exchange: bool, list: &mut [u16]) -> Whole {
-    let mut table = [0u16; 400];
-    turbo_cells(set, exchange, &mut table, list)
-}
-
 // The list of an accepted set of profile 5 with no exchange at full rectangles: wrong on purpose.
 pub fn unexchanged(set: Set, list: &mut [u16]) -> Whole {
     turbo_list(set, false, list)
@@ -169,16 +172,12 @@ pub fn unexchanged(set: Set, list: &mut [u16]) -> Whole {
 
 // The whole list of an accepted set.
 pub fn list_of(way: Way, set: Set, list: &mut [u16]) -> Whole {
-    if set.profile == 5 {
-        return turbo_list(set, true, list);
+    match set.profile {
+        5 => turbo_list(set, true, list),
+        8 => squares::list_of(set, list),
+        9 => coupled::list_of(set, list),
+        _ => carrier_list(way, set, turn(set), list),
     }
-    if set.profile == 8 {
-        return squares::list_of(set, list);
-    }
-    if set.profile == 9 {
-        return coupled::list_of(set, list);
-    }
-    carrier_list(way, set, turn(set), list)
 }
 
 // For each symbol of an accepted set's output its input symbol. For a profile without couples, that is L.

@@ -1,11 +1,6 @@
 // The grid of profile 5 from 3GPP TS 25.212: R, p, C, S, q and T, and a cell's address.
-use crate::num::{at, minus, over, plus, put, rest, times, wide};
+use crate::num::{at, minus, over, plus, put, rest, times};
 use crate::primes::{next_q, prime, root};
-
-// In the table S stands at 0, q at Q and T at T.
-const Q: usize = 300;
-
-const T: usize = 320;
 
 const FIRST: [u16; 20] = [
     19, 9, 14, 4, 0, 2, 5, 7, 12, 18, 16, 13, 17, 15, 3, 1, 6, 11, 8, 10,
@@ -15,55 +10,39 @@ const OTHER: [u16; 20] = [
     19, 9, 14, 4, 0, 2, 5, 7, 12, 18, 10, 8, 13, 17, 3, 1, 16, 6, 15, 11,
 ];
 
-// R, p and C, and whether U(p) and U(0) of row R - 1 change places.
+// R, p and C, whether U(p) and U(0) of row R - 1 change places, and S, q and T.
 #[derive(Clone, Copy)]
 pub struct Grid {
     pub r: usize,
-    pub p: usize,
+    p: usize,
     pub c: usize,
     pub exchanges: bool,
+    s: [u16; 256],
+    q: [u16; 20],
+    t: [u16; 20],
 }
 
 pub(super) fn rows(k: usize) -> usize {
-    if k < 160 {
-        return 5;
+    match k {
+        0..160 => 5,
+        160..=200 | 481..=530 => 10,
+        _ => 20,
     }
-    if k <= 200 {
-        return 10;
-    }
-    if k < 481 {
-        return 20;
-    }
-    if k <= 530 {
-        return 10;
-    }
-    20
 }
 
 // p: the least prime from 7 on with K ≤ R·(p + 1); 53 for K 481 to 530.
 pub(super) fn prime_of(k: usize, r: usize) -> usize {
-    if r == 10 {
-        if 480 < k {
-            return 53;
-        }
+    if r == 10 && 480 < k {
+        return 53;
     }
-    let mut p = 7;
-    while p < 257 {
-        if k <= times(r, plus(p, 1)) {
-            if prime(p) {
-                return p;
-            }
-        }
-        p += 1;
-    }
-    p
+    (7..257)
+        .find(|p| k <= times(r, plus(*p, 1)) && prime(*p))
+        .unwrap_or(257)
 }
 
 pub(super) fn columns(k: usize, r: usize, p: usize) -> usize {
-    if r == 10 {
-        if 480 < k {
-            return 53;
-        }
+    if r == 10 && 480 < k {
+        return 53;
     }
     if k <= times(r, minus(p, 1)) {
         return minus(p, 1);
@@ -74,89 +53,73 @@ pub(super) fn columns(k: usize, r: usize, p: usize) -> usize {
     plus(p, 1)
 }
 
-fn powers(p: usize, table: &mut [u16]) {
+// S.
+fn powers(p: usize) -> [u16; 256] {
     let v = root(p);
-    let last = minus(p, 1);
+    let mut s = [0; 256];
     let mut y = 1;
-    let mut x = 0;
-    while x < last {
-        put(table, x, y);
+    for x in 0..minus(p, 1) {
+        put(&mut s, x, y);
         y = rest(times(v, y), p);
-        x += 1;
     }
+    s
 }
 
-fn steps(r: usize, p: usize, table: &mut [u16]) {
+// q.
+fn steps(r: usize, p: usize) -> [u16; 20] {
+    let mut steps = [0; 20];
     let mut q = 1;
-    let mut i = 0;
-    while i < r {
-        put(table, plus(Q, i), q);
+    for i in 0..r {
+        put(&mut steps, i, q);
         q = next_q(q, p);
-        i += 1;
     }
-}
-
-fn entry(order: &[u16; 20], i: usize) -> usize {
-    if i < 20 {
-        return wide(order[i]);
-    }
-    0
+    steps
 }
 
 fn row(k: usize, r: usize, i: usize) -> usize {
     if r < 20 {
         return minus(minus(r, 1), i);
     }
-    if 2281 <= k {
-        if k <= 2480 {
-            return entry(&FIRST, i);
-        }
+    match k {
+        2281..=2480 | 3161..=3210 => at(&FIRST, i),
+        _ => at(&OTHER, i),
     }
-    if 3161 <= k {
-        if k <= 3210 {
-            return entry(&FIRST, i);
-        }
-    }
-    entry(&OTHER, i)
 }
 
-fn row_order(k: usize, r: usize, table: &mut [u16]) {
-    let mut i = 0;
-    while i < r {
-        put(table, plus(T, i), row(k, r, i));
-        i += 1;
+// T.
+fn row_order(k: usize, r: usize) -> [u16; 20] {
+    let mut order = [0; 20];
+    for i in 0..r {
+        put(&mut order, i, row(k, r, i));
     }
+    order
 }
 
 // If C = p + 1 and K = R.C, the standard exchanges U(p) with U(0) of row R - 1.
 fn exchanges(k: usize, r: usize, p: usize, c: usize) -> bool {
-    if c == plus(p, 1) {
-        return k == times(r, c);
-    }
-    false
+    c == plus(p, 1) && k == times(r, c)
 }
 
-// R, p and C, with S, q and T in the table.
-pub(super) fn plan(k: usize, table: &mut [u16]) -> Grid {
+pub(super) fn plan(k: usize) -> Grid {
     let r = rows(k);
     let p = prime_of(k, r);
     let c = columns(k, r, p);
-    powers(p, table);
-    steps(r, p, table);
-    row_order(k, r, table);
     Grid {
         r,
         p,
         c,
         exchanges: exchanges(k, r, p, c),
+        s: powers(p),
+        q: steps(r, p),
+        t: row_order(k, r),
     }
 }
 
 // u of row i and column j.
-fn across(g: Grid, table: &[u16], i: usize, j: usize) -> usize {
+fn across(g: &Grid, i: usize, j: usize) -> usize {
     let last = minus(g.p, 1);
     if j < last {
-        let power = at(table, rest(times(j, at(table, plus(Q, i))), last));
+        let power = at(&g.s, rest(times(j, at(&g.q, i)), last));
         if g.c == last {
             return minus(power, 1);
         }
@@ -169,24 +132,20 @@ fn across(g: Grid, table: &[u16], i: usize, j: usize) -> usize {
 }
 
 // The column whose U stands at column j of a row, as the rows are before their order T.
-fn taken(g: Grid, row: usize, j: usize) -> usize {
-    if g.exchanges {
-        if plus(row, 1) == g.r {
-            if j == 0 {
-                return g.p;
-            }
-            if j == g.p {
-                return 0;
-            }
-        }
+fn taken(g: &Grid, row: usize, j: usize) -> usize {
+    if !g.exchanges || plus(row, 1) != g.r {
+        return j;
     }
-    j
+    if j == 0 {
+        return g.p;
+    }
+    if j == g.p { 0 } else { j }
 }
 
 // T(i)·C + u of the column that a cell takes, the cells with j outer and i inner.
-pub(super) fn address(g: Grid, table: &[u16], cell: usize) -> usize {
+pub(super) fn address(g: &Grid, cell: usize) -> usize {
     let i = rest(cell, g.r);
     let j = over(cell, g.r);
-    let row = at(table, plus(T, i));
-    plus(times(row, g.c), across(g, table, i, taken(g, row, j)))
+    let row = at(&g.t, i);
+    plus(times(row, g.c), across(g, i, taken(g, row, j)))
 }

@@ -1,5 +1,4 @@
 -- `gateway_form::entries_fit`.
-use Prim.Native.Nat.{◌-◌}
 use Rattle.gateway_form.specs.Testing.{Testing}
 use Rattle.gateway_form.proofs.entries_fit.Given as goal
 

@@ -3,7 +3,7 @@ use Rattle.big_end.specs.Numbers.{number_at}
 use Rattle.laws.specs.Fill.{Filled}
 use lib.ListN.{replicate}
 use mathlib.Core.Path.{◌≡◌}
-use Prim.Native.Nat.{◌+◌, ◌-◌, ◌*◌, ◌≤◌}
+use Prim.Native.Nat.{◌+◌, ◌*◌}
 use Rattle.gateway_form.proofs.record_of.Given as goal
 
 abbrev pub invariant-loop-place : goal.invariant-loop-place

@@ -8,5 +8,5 @@ use Rattle.bursts.proofs.picture.across.Goals as goal
 pub overflow_sub-result : goal.overflow_sub-result
 overflow_sub-result c =
     let a = c.args in
-    let z = sound a.kind in
-    omega (arith, c.place.ensures, comes_behind (sizes_of a.kind).branches (sizes_of a.kind).step z.some_branches z.some_step (a.at + a.i))
+    let z = sound a.burst.kind in
+    omega (arith, c.place.ensures, comes_behind (sizes_of a.burst.kind).branches (sizes_of a.burst.kind).step z.some_branches z.some_step (a.burst.at + a.i))

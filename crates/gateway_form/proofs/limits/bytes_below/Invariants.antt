@@ -1,6 +1,5 @@
 -- `gateway_form::limits::bytes_below`.
 use Rattle.gateway_form.specs.Limits.{Below}
-use Prim.Native.Nat.{◌-◌}
 use Rattle.gateway_form.proofs.limits.bytes_below.Given as goal
 
 abbrev pub invariant-loop-i : goal.invariant-loop-i

@@ -1,7 +1,6 @@
 -- `gateway_form::limits::limits_of`.
 use Rattle.gateway_form.specs.Limits.{Limiting}
 use Rattle.kinds.specs.Kinds.{sizes_of}
-use Prim.Native.Nat.{◌-◌}
 use Rattle.gateway_form.proofs.limits.limits_of.Given as goal
 
 abbrev pub invariant-loop : goal.invariant-loop

@@ -1,9 +1,0 @@
--- Every index is in range.
-use Rattle.std.proofs.Common.{◌≡◌, ◌-◌, ◌≤◌, length}
-use Rattle.compare.proofs.moves.clear.Given as goal
-
-abbrev pub invariant-loop-t : goal.invariant-loop-t
-invariant-loop-t l = (l.t ≤ length l.initial.dst) × (length l.dst ≡ length l.initial.dst)
-
-abbrev pub decreases-loop-t : goal.decreases-loop-t
-decreases-loop-t l = length l.initial.dst - l.t

@@ -1,9 +1,0 @@
--- `figures::decimal::spell` ends, and stays in its room.
-use Prim.Native.Nat.{◌≤◌}
-use Rattle.figures.proofs.decimal.spell.Given as goal
-
-abbrev pub invariant-loop-i : goal.invariant-loop-i
-invariant-loop-i l = l.i ≤ 160
-
-abbrev pub decreases-loop-i : goal.decreases-loop-i
-decreases-loop-i l = l.i

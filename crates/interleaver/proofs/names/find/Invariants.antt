@@ -1,7 +1,0 @@
--- `interleaver::names::find` ends: the words rise.
-use Prim.Native.Nat.{◌-◌}
-use lib.ListN.{length}
-use Rattle.interleaver.proofs.names.find.Given as goal
-
-abbrev pub decreases-loop-i : goal.decreases-loop-i
-decreases-loop-i l = length l.line - l.i
