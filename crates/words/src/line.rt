@@ -5,6 +5,7 @@ use lines::ROOM;
 use system::System;
 
 // A line of standard input: so many bytes at the start of the room; or one that is too long, and was passed over; or there is none.
+// (Three answers, with each of which a caller does another thing: an Option in a Result would be no plainer.)
 #[derive(Clone, Copy)]
 pub enum Line {
     Of(usize),
