@@ -1,6 +1,6 @@
 -- Repeated receptions of a block, added up: the lines of the two calls in the order of change request 2, without 8, by request 7, and with 1 for profile 9, by
 -- request 12, what they have to say, and what is stored after a call.
-use Rattle.std.specs.Prelude.{ℕ, Bool, cond, not, ◌&&◌, List, [], ◌∷◌, ◌++◌, Option, Some, None, Result, Ok, Err, ◌≡◌, refl, eqb, leb, Float, length}
+use Rattle.std.specs.Prelude.{ℕ, Bool, cond, not, ◌&&◌, List, [], ◌∷◌, ◌++◌, ◌≡◌, refl, eqb, leb, Float, length}
 use Rattle.laws.specs.Outcome.{Outcome, done, refused, apart, Line, line, judged, after}
 use Rattle.sets.specs.declared.Set.{Set}
 use Rattle.sets.specs.declared.Refusal.{Refusal}
@@ -11,6 +11,8 @@ use Rattle.positions.specs.declared.Running.{Running}
 use Rattle.positions.specs.Heard.{Reception, Kept, held}
 use Rattle.adders.specs.Lines.{value_lines}
 use Rattle.adders.specs.Adding.{sums_by, counts_by}
+use Rattle.combine.specs.declared.Reading.{Reading}
+use Rattle.combine.specs.declared.Reading.TheVariants.{Soft, Blank, Refused}
 
 -- two lists have n entries each
 abbrev pub both_long : {A B : Type 0} → ℕ → List A → List B → Bool
@@ -61,26 +63,22 @@ read_lines s h k = coupled_line s ∷ (set_lines s ++ (line 4 (leb s.n k) ∷ li
 unfoldable pub read_of : Set → Kept → ℕ → Outcome Refusal Standing
 read_of s h k = judged (refusal s) (read_lines s h k) (told_of (held h k))
 
--- as the answer of a reading has it: nothing stands where a blank does
-abbrev pub stands : Option Running → Standing
-stands (Some r) = soft r
-stands None = blank
-
 -- what the answer of a reading says
-abbrev pub say_reading : Result (Option Running) Refusal → Outcome Refusal Standing
-say_reading (Ok o) = done (stands o)
-say_reading (Err x) = refused x
+abbrev pub say_reading : Reading → Outcome Refusal Standing
+say_reading (Soft r) = done (soft r)
+say_reading Blank = done blank
+say_reading (Refused x) = refused x
 
 -- two answers that say the same are the same
-pub readings_apart : (a b : Result (Option Running) Refusal) → say_reading a ≡ say_reading b → a ≡ b
+pub readings_apart : (a b : Reading) → say_reading a ≡ say_reading b → a ≡ b
 readings_apart = apart say_reading read same
   where
-    read : Outcome Refusal Standing → Result (Option Running) Refusal
-    read (done (soft r)) = Ok (Some r)
-    read (done blank) = Ok None
-    read (refused x) = Err x
+    read : Outcome Refusal Standing → Reading
+    read (done (soft r)) = Soft r
+    read (done blank) = Blank
+    read (refused x) = Refused x
 
-    same : (a : Result (Option Running) Refusal) → read (say_reading a) ≡ a
-    same (Ok (Some r)) = refl
-    same (Ok None) = refl
-    same (Err x) = refl
+    same : (a : Reading) → read (say_reading a) ≡ a
+    same (Soft r) = refl
+    same Blank = refl
+    same (Refused x) = refl

@@ -4,18 +4,24 @@
 #![tactic(auto)]
 
 ghost use Rattle.std.specs.Prelude.{◌≡◌, ◌≤◌, length};
-ghost use Rattle.laws.specs.Outcome.{say};
+ghost use Rattle.laws.specs.Outcome.{say, done};
 ghost use Rattle.positions.specs.Heard.{reception, kept};
 ghost use Rattle.families.specs.Symbols.{symbols_of};
-ghost use Rattle.combine.specs.Answer.{plain_of, added_of, sums_of, counts_of, read_of, stands, say_reading, told_of};
+ghost use Rattle.combine.specs.Answer.{plain_of, added_of, sums_of, counts_of, read_of, say_reading, told_of};
 ghost use Rattle.combine.specs.Passed.{Lent, Added};
 
 use positions::Running;
 use sets::{Refusal, Set, Verdict};
 use tables::{LARGE, MIDDLE, Moved, SMALL};
 
-// What stands at a position: a soft value, which is the running sum and how many values it is of; or nothing, a blank, where the count is 0.
-pub type Reading = Result<Option<Running>, Refusal>;
+// What stands at a position: a soft value, which is the running sum and how many values it is of; or a blank, where the count is 0. (No Result of an
+// Option: the buyer's paper names this form, an enum with these three cases.)
+#[derive(Clone, Copy)]
+pub enum Reading {
+    Soft(Running),
+    Blank,
+    Refused(Refusal),
+}
 
 // 1 of a set of couples, whose receptions are not added up.
 fn plain(set: Set) -> Verdict
@@ -99,32 +105,34 @@ pub fn add(
 }
 
 // What stands at a position.
-fn reading_at(held: Running) -> Option<Running>
-    ensures { stands result ≡ told_of held }
+fn reading_at(held: Running) -> Reading
+    ensures { say_reading result ≡ done (told_of held) }
 {
     if positions::is_blank(held) {
-        return None;
+        return Reading::Blank;
     }
-    Some(held)
+    Reading::Soft(held)
 }
 
 // Reads a position, by input index. Refusals 1, also of profile 9, 2, 3, 16, 11, 10, 4, 6.
 pub fn read(set: Set, sums: &[f32], counts: &[u16], position: u32) -> Reading
     ensures { say_reading result ≡ read_of set (kept sums.now counts.now) position }
 {
-    plain(set)?;
+    if let Err(x) = plain(set) {
+        return Reading::Refused(x);
+    }
     if let Err(k) = sets::ruling_of(set) {
-        return Err(sets::refusal_of(set, k));
+        return Reading::Refused(sets::refusal_of(set, k));
     }
     if position >= set.n {
-        return Err(sets::refusal_of(set, 4));
+        return Reading::Refused(sets::refusal_of(set, 4));
     }
     if adders::off(set.n as usize, sums.len(), counts.len()) != set.n as usize {
-        return Err(sets::refusal_of(set, 6));
+        return Reading::Refused(sets::refusal_of(set, 6));
     }
     let k = position as usize;
-    Ok(reading_at(Running {
+    reading_at(Running {
         sum: sums[k],
         count: counts[k],
-    }))
+    })
 }

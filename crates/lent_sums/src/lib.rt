@@ -18,16 +18,16 @@ fn taken(r: Reading, sum: &mut f32, count: &mut u16) -> u32
     ensures count { count.new ≡ count_out (say_reading r) count.old }
 {
     match r {
-        Ok(Some(held)) => {
+        Reading::Soft(held) => {
             *sum = held.sum;
             *count = held.count;
             0
         }
-        Ok(None) => {
+        Reading::Blank => {
             *count = 0;
             0
         }
-        Err(x) => x.number,
+        Reading::Refused(x) => x.number,
     }
 }
 

@@ -1,13 +1,11 @@
 // Text that is gathered before it is written: a system call for each part of a line would cost more than the line.
 ghost use Rattle.std.specs.Prelude.{◌≡◌, ◌≤◌};
-ghost use Rattle.words.specs.Gathered.{Put, PutNumber};
 
-use lines::first;
 use std::io::{Error, ErrorKind, Result};
 use system::{STDERR_FILENO, STDOUT_FILENO, System};
 
 // The room that text is gathered in.
-pub const ROOM: usize = 4096;
+const ROOM: usize = 4096;
 
 // Text on its way to standard output: so many bytes wait at the start of the room.
 #[derive(Drop)]
@@ -79,41 +77,6 @@ pub fn write(system: System, fd: i32, s: &[u8]) -> bool {
             false
         }
     }
-}
-
-// Puts s after the `from` bytes that wait at the start of the room, and answers how many wait then. A full room is written first.
-pub fn put(system: System, room: &mut [u8; ROOM], from: usize, s: &[u8]) -> usize
-    ensures { Put room.old from s.now room.new result }
-{
-    let mut at = from;
-    let mut i = 0;
-    if at > ROOM {
-        at = ROOM;
-    }
-    while i < s.len() {
-        if at >= ROOM {
-            write(system, STDOUT_FILENO, room);
-            at = 0;
-        }
-        room[at] = s[i];
-        at += 1;
-        i += 1;
-    }
-    at
-}
-
-// The same for a number in decimal.
-pub fn put_number(system: System, room: &mut [u8; ROOM], from: usize, n: u64) -> usize
-    ensures { PutNumber room.old from n room.new result }
-{
-    let mut digits = [0u8; 20];
-    let k = io::decimal(n, &mut digits);
-    put(system, room, from, &digits[..k])
-}
-
-// Writes what waits.
-pub fn flush(system: System, room: &[u8; ROOM], at: usize) {
-    write(system, STDOUT_FILENO, first(room, at));
 }
 
 // Writes words and a number.
