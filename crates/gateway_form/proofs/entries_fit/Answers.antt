@@ -3,7 +3,7 @@ use mathlib.Core.Path.{sym, ap, ◌∙◌}
 use native.Mathlib.Omega.{arith}
 use lib.ListN.{length}
 use Rattle.laws.specs.Parts.{length_part}
-use Rattle.gateway_form.specs.Testing.{fits_low, testing_first, testing_end, entry_bad, share_apart, testing_more}
+use Rattle.gateway_form.specs.Testing.{testing_first, testing_end, entry_bad, share_apart, testing_more}
 use Rattle.gateway_form.proofs.entries_fit.Goals as goal
 
 pub loop-init : goal.loop-init

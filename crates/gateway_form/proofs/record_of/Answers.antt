@@ -1,7 +1,7 @@
 -- `gateway_form::record_of`.
 use Rattle.gateway_form.specs.Form.{places_of}
 use Rattle.big_end.specs.Numbers.{number_at}
-use Rattle.laws.specs.Fill.{filled_none, filled_more, filled_all}
+use Rattle.laws.specs.Fill.{filled_more, filled_all}
 use native.Mathlib.Omega.{arith}
 use mathlib.Core.Path.{◌≡◌, ap, ◌∙◌}
 use Prim.Native.Nat.{◌+◌, ◌*◌}

@@ -1,6 +1,6 @@
 -- `gateway_laying::all_directed`.
 use mathlib.Core.Path.{sym, ◌∙◌}
-use Rattle.gateway_laying.specs.Laying.{passing_first, passing_all, passing_more, passing_not}
+use Rattle.gateway_laying.specs.Laying.{passing_all, passing_more, passing_not}
 use Rattle.gateway_laying.proofs.all_directed.Goals as goal
 
 pub returns-then-not-is_direction : goal.returns-then-not-is_direction

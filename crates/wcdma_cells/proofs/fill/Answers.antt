@@ -1,20 +1,18 @@
 -- `fill` walks the cells. The invariant: the walk stands at row i of column j, with the exponents of the rows there, and has written what comes before.
-use Prim.Native.Nat.{ℕ, ◌+◌, ◌*◌, ◌-◌, ◌<◌, ◌≤◌}
-use borrow.Author.Tests.{eqb-true, leb-true}
+use Prim.Native.Nat.{ℕ, ◌+◌, ◌*◌, ◌<◌}
+use borrow.Author.Tests.{eqb-true}
 use lib.Dec.{eqb}
-use lib.ListN.{length}
 use mathlib.Core.Logic.{inl, inr}
 use Rattle.std.specs.Prelude.{Ok}
 use mathlib.Core.Path.{◌∙◌, ◌≡◌, ap, ap₂, refl, sym}
-use native.Mathlib.Nat.{add-mul, one-mul}
 use native.Mathlib.Omega.{arith}
 use Rattle.laws.specs.Members.{both}
-use Rattle.laws.specs.Written.{begun, ended}
+use Rattle.laws.specs.Written.{ended}
 use Rattle.laws.specs.Walk.{went, walk_cells, walk_list, walk_slice}
 use Rattle.wcdma_shape.specs.Rectangle.{cols, rows}
-use Rattle.wcdma_shape.specs.Shape.{cells_le, cols_high, prime_small, rows_le, rows_pos}
+use Rattle.wcdma_shape.specs.Shape.{cells_le, rows_pos}
 use Rattle.wcdma_cells.proofs.Cell.{cell_on, column_on, place_on}
-use Rattle.wcdma_cells.proofs.Place.{Place, exponents_to, exponents_top, place_behind, place_down, place_inside, place_over}
+use Rattle.wcdma_cells.proofs.Place.{Place, exponents_to, exponents_top, place_behind, place_down, place_over}
 use Rattle.wcdma_cells.proofs.fill.Goals as goal
 use Rattle.wcdma_cells.proofs.fill.Goals.{else-loop-j-test, then-loop-j-test+else-i-r+then-room-eq0}
 use Rattle.wcdma_cells.proofs.fill.Invariants.{to}

@@ -1,7 +1,7 @@
 -- `one_column` passes the cells of a column. The invariant: the walk has gone on by i cells.
 use Prim.Native.Nat.{◌*◌}
-use mathlib.Core.Path.{◌∙◌, ◌≡◌, refl, sym}
-use native.Mathlib.Nat.{add_assoc, add-zero}
+use mathlib.Core.Path.{◌∙◌, ◌≡◌, sym}
+use native.Mathlib.Nat.{add_assoc}
 use native.Mathlib.Omega.{arith}
 use Rattle.wcdma_shape.specs.Rectangle.{rows}
 use Rattle.wcdma_cells.proofs.Place.{exponents_top}

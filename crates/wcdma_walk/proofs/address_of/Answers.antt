@@ -2,7 +2,7 @@
 use Prim.Native.Nat.{◌+◌}
 use lib.ListN.{get_or-append, length}
 use lib.Seq.{length-take-le}
-use mathlib.Core.Path.{◌∙◌, ◌≡◌, sym}
+use mathlib.Core.Path.{◌∙◌, ◌≡◌}
 use native.Mathlib.Omega.{arith}
 use Rattle.laws.specs.Leaves.{holds_l}
 use Rattle.wcdma.proofs.Law.{turbo_lawful}

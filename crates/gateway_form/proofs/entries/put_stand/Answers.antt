@@ -1,14 +1,11 @@
 -- `gateway_form::entries::put_stand`.
 use Prim.Native.Nat.{◌+◌}
-use mathlib.Core.Path.{◌≡◌, refl, sym, ap, ◌∙◌}
+use mathlib.Core.Path.{refl, sym, ◌∙◌}
 use native.Mathlib.Omega.{arith}
-use lib.ListN.{length}
-use lib.Seq.{length-sets}
 use Rattle.laws.specs.Members.{chained}
-use Rattle.laws.specs.Chained.{sets_then, storing_first, storing_end, storing_more}
+use Rattle.laws.specs.Chained.{sets_then, storing_end, storing_more}
 use Rattle.big_end.specs.Numbers.{number_bytes}
 use Rattle.gateway_form.specs.Form.{stand_bytes}
-use borrow.Author.Rules.{rules}
 use Rattle.gateway_form.proofs.entries.put_stand.Goals as goal
 
 pub loop-place-preserved : goal.loop-place-preserved
