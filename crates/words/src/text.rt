@@ -1,11 +1,12 @@
 // Text that is gathered before it is written: a system call for each part of a line would cost more than the line.
 ghost use Rattle.std.specs.Prelude.{◌≡◌, ◌≤◌};
+ghost use Rattle.words.specs.Gathered.{Put, PutNumber};
 
 use std::io::{Error, ErrorKind, Result};
 use system::{STDERR_FILENO, STDOUT_FILENO, System};
 
 // The room that text is gathered in.
-const ROOM: usize = 4096;
+pub const ROOM: usize = 4096;
 
 // Text on its way to standard output: so many bytes wait at the start of the room.
 #[derive(Drop)]
@@ -34,29 +35,46 @@ impl Text {
     pub fn put(&mut self, s: &[u8])
         ensures { Puts self.old s.now self.new }
     {
-        for b in s {
-            if self.at == ROOM {
-                write(self.system, STDOUT_FILENO, &self.room);
-                self.at = 0;
-            }
-            self.room[self.at] = *b;
-            self.at += 1;
-        }
+        self.at = put(self.system, &mut self.room, self.at, s);
     }
 
     // The same for a number in decimal.
     pub fn put_number(&mut self, n: u64)
         ensures { PutsNumber self.old n self.new }
     {
-        let mut digits = [0u8; 20];
-        let k = io::decimal(n, &mut digits);
-        self.put(&digits[..k]);
+        self.at = put_number(self.system, &mut self.room, self.at, n);
     }
 
     // Writes what waits.
     pub fn flush(self) {
         write(self.system, STDOUT_FILENO, &self.room[..self.at]);
     }
+}
+
+// Puts s after the `from` bytes that wait at the start of a room, and answers how many wait then. A full room is written first. (For whoever has a room of
+// his own; any `from` may be given, where a Text has at most what its room holds.)
+pub fn put(system: System, room: &mut [u8; ROOM], from: usize, s: &[u8]) -> usize
+    ensures { Put room.old from s.now room.new result }
+{
+    let mut at = from.min(ROOM);
+    for b in s {
+        if at == ROOM {
+            write(system, STDOUT_FILENO, room);
+            at = 0;
+        }
+        room[at] = *b;
+        at += 1;
+    }
+    at
+}
+
+// The same for a number in decimal.
+pub fn put_number(system: System, room: &mut [u8; ROOM], from: usize, n: u64) -> usize
+    ensures { PutNumber room.old from n room.new result }
+{
+    let mut digits = [0u8; 20];
+    let k = io::decimal(n, &mut digits);
+    put(system, room, from, &digits[..k])
 }
 
 // Std writes to no other descriptor: a write to one fails.
