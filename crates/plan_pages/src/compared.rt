@@ -14,20 +14,11 @@ struct From {
 // Behind a difference: the next plan behind one of a whole plan, else the next position.
 fn behind(d: Difference) -> From {
     match d {
-        Difference::Missing(plan) => From {
+        Difference::Missing(plan) | Difference::Header(plan) => From {
             plan: plan.saturating_add(1),
             position: 0,
         },
-        Difference::Header(plan) => From {
-            plan: plan.saturating_add(1),
-            position: 0,
-        },
-        Difference::At {
-            plan,
-            position,
-            left: _,
-            right: _,
-        } => From {
+        Difference::At { plan, position, .. } => From {
             plan,
             position: position.saturating_add(1),
         },

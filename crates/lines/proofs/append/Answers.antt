@@ -5,4 +5,4 @@ use Rattle.lines.specs.Appended.{append_put}
 use Rattle.lines.proofs.append.Goals as goal
 
 pub returns : goal.returns
-returns c = append_put _ _ _ _ _ _ (search rules) (omega arith) (omega arith) (search rules)
+returns c = append_put _ _ _ _ c.min-at.result c.min-n.result (search rules) (omega arith) (omega arith) (search rules)
