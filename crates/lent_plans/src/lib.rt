@@ -2,70 +2,44 @@
 #![tactic(auto)]
 
 ghost use Rattle.std.specs.Prelude.{◌≡◌, ℕ, length};
-ghost use Rattle.plans.specs.Judging.{say_counted, say_judged, counted_of, judged_of};
-ghost use Rattle.plans.specs.Writing.{say_length, say_written, length_of, written_of, buffer_of};
+ghost use Rattle.laws.specs.Outcome.{say};
+ghost use Rattle.plans.specs.Judging.{counted_of, judged_of};
+ghost use Rattle.plans.specs.Writing.{length_of, written_of, buffer_of};
 ghost use Rattle.flat.specs.Flat.{number_of, out_of};
 ghost use Rattle.lent_plans.specs.Plans.{first_of, wrong_of};
 
-use plans::judging::{Counted, Judged};
-use plans::writing::{Length, Written};
+use plans::judging::{Compared, Judged};
+use sets::Refusal;
 
-// Takes a count of plans apart.
-fn counted(c: Counted, count: &mut u32) -> u32
-    ensures number { result ≡ number_of (say_counted c) }
-    ensures count { count.new ≡ out_of (say_counted c) (λ (k : ℕ). k) count.old }
+// Takes an answer of one number apart: how many plans there are, or a file's length.
+fn taken(answer: Result<u32, Refusal>, out: &mut u32) -> u32
+    ensures number { result ≡ number_of (say answer) }
+    ensures out { out.new ≡ out_of (say answer) (λ (k : ℕ). k) out.old }
 {
-    match c {
-        Counted::Plans(k) => {
-            *count = k;
-            0
-        }
-        Counted::Refused(x) => x.number,
+    if let Ok(k) = answer {
+        *out = k;
     }
+    flat::number(answer)
 }
 
 // Takes a judgement apart. An equal plan has 0 wrong positions, and then the first is 0.
 fn judged(j: Judged, first: &mut u32, wrong: &mut u32) -> u32
-    ensures number { result ≡ number_of (say_judged j) }
-    ensures first { first.new ≡ out_of (say_judged j) first_of first.old }
-    ensures wrong { wrong.new ≡ out_of (say_judged j) wrong_of wrong.old }
+    ensures number { result ≡ number_of (say j) }
+    ensures first { first.new ≡ out_of (say j) first_of first.old }
+    ensures wrong { wrong.new ≡ out_of (say j) wrong_of wrong.old }
 {
     match j {
-        Judged::Equal => {
+        Ok(Compared::Same) => {
             *first = 0;
             *wrong = 0;
             0
         }
-        Judged::Wrong { first: p, count } => {
+        Ok(Compared::Wrong { first: p, count }) => {
             *first = p;
             *wrong = count;
             0
         }
-        Judged::Refused(x) => x.number,
-    }
-}
-
-// Takes a file's length apart.
-fn measured(l: Length, bytes: &mut u32) -> u32
-    ensures number { result ≡ number_of (say_length l) }
-    ensures bytes { bytes.new ≡ out_of (say_length l) (λ (b : ℕ). b) bytes.old }
-{
-    match l {
-        Length::Bytes(b) => {
-            *bytes = b;
-            0
-        }
-        Length::Refused(x) => x.number,
-    }
-}
-
-// The number of what writing answers.
-fn written(w: Written) -> u32
-    ensures { result ≡ number_of (say_written w) }
-{
-    match w {
-        Written::Done => 0,
-        Written::Refused(x) => x.number,
+        Err(x) => x.number,
     }
 }
 
@@ -74,7 +48,7 @@ pub fn count(file: &[u8], count: &mut u32) -> u32
     ensures number { result ≡ number_of (counted_of file.now) }
     ensures count { count.new ≡ out_of (counted_of file.now) (λ (k : ℕ). k) count.old }
 {
-    counted(plans::judging::count(file), count)
+    taken(plans::judging::count(file), count)
 }
 
 // Judges a plan, counted from 1.
@@ -91,7 +65,7 @@ pub fn measure(sets: &[u32], bytes: &mut u32) -> u32
     ensures number { result ≡ number_of (length_of sets.now) }
     ensures bytes { bytes.new ≡ out_of (length_of sets.now) (λ (b : ℕ). b) bytes.old }
 {
-    measured(plans::writing::length_of(sets), bytes)
+    taken(plans::writing::length_of(sets), bytes)
 }
 
 // Writes the file of given sets.
@@ -99,5 +73,5 @@ pub fn write(sets: &[u32], out: &mut [u8]) -> u32
     ensures number { result ≡ number_of (written_of sets.now (length out.old)) }
     ensures out { out.new ≡ buffer_of sets.now out.old }
 {
-    written(plans::writing::write(sets, out))
+    flat::number(plans::writing::write(sets, out))
 }

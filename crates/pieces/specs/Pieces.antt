@@ -1,5 +1,5 @@
 -- Where a walk for L stands between two pieces, and what the next piece holds. Rests on the laws of every accepted set (families).
-use Rattle.std.specs.Prelude.{ℕ, min, ◌+◌, ◌-◌, ◌≤◌, ◌≡◌, refl}
+use Rattle.std.specs.Prelude.{ℕ, min, ◌+◌, ◌-◌, ◌≤◌, Ok, Err, ◌≡◌, refl}
 use mathlib.Core.List.{List, ◌++◌}
 use Rattle.std.proofs.Math.Path.{sym, ap}
 use Rattle.std.proofs.Common.{◌∙◌, zero-add, le-ltb}
@@ -7,13 +7,13 @@ use native.Mathlib.Omega.{arith}
 use Rattle.std.proofs.Math.ListN.{length, take, drop, length-append}
 use Rattle.std.proofs.Math.Seq.{take-append_seam}
 use Rattle.laws.specs.declared.Way.TheVariants.{Interleaver}
-use Rattle.laws.specs.declared.Leaf.TheVariants.{Went, Stopped}
+use Rattle.laws.specs.declared.Went.{Went}
 use Rattle.laws.specs.Run.{run, length_run}
 use Rattle.laws.specs.Keep.{keep, steps}
 use Rattle.laws.specs.Cut.{keep_cut, wrote_keep}
 use Rattle.laws.specs.Once.{inside}
 use Rattle.laws.specs.Pieces.{cells_within}
-use Rattle.laws.specs.Walk.{Rule, Lawful, Counts, counts, walk_counts, walk_list, walk_cells, walk_slice, passed_by, walk_from}
+use Rattle.laws.specs.Walk.{Rule, Lawful, walk_counts, walk_list, walk_cells, walk_slice, passed_by, walk_from}
 use Rattle.sets.specs.declared.Set.{Set}
 use Rattle.sets.specs.Admits.{Accepted}
 use Rattle.families.specs.Rules.{rule_of, L, lawful}
@@ -63,52 +63,52 @@ stands_first s = record { within = omega arith; behind = refl; inside = omega ar
 module _ (s : Set) (e : Accepted s) {w : Standing} (h : Stands s w) where
   -- a walk from there is not refused
   module _ {old new : List ℕ} where
-    pub goes : {k : ℕ} → WalkLeaf Interleaver s w.cell old new (Stopped k) → ⊥
+    pub goes : {k : ℕ} → WalkLeaf Interleaver s w.cell old new (Err k) → ⊥
     goes l =
         let q = rw (le-ltb (rule_of s).total w.cell h.within) at (leaf_had Interleaver s refl l).answer in
         let z : ◌≡◌ {A = ℕ} 0 1 = cc in omega arith
 
     -- and writes the next piece
-    module _ {written cells : ℕ} (l : WalkLeaf Interleaver s w.cell old new (Went written cells)) where
-      says : ◌≡◌ {A = Counts} (counts written cells) (walk_counts s.n (rule_of s) w.cell (length old))
+    module _ {c : Went} (l : WalkLeaf Interleaver s w.cell old new (Ok c)) where
+      says : ◌≡◌ {A = Went} c (walk_counts s.n (rule_of s) w.cell (length old))
       says =
           let q = rw (le-ltb (rule_of s).total w.cell h.within) at (leaf_had Interleaver s refl l).answer in cc
 
-      written_is : written ≡ length (walk_list s.n (rule_of s) w.cell (length old))
-      written_is = ap (λ (c : Counts). c.written) says
+      written_is : c.written ≡ length (walk_list s.n (rule_of s) w.cell (length old))
+      written_is = ap (λ (c : Went). c.written) says
 
-      cells_are : cells ≡ walk_cells s.n (rule_of s) w.cell (length old)
-      cells_are = ap (λ (c : Counts). c.cells) says
+      cells_are : c.cells ≡ walk_cells s.n (rule_of s) w.cell (length old)
+      cells_are = ap (λ (c : Went). c.cells) says
 
       list_is : walk_list s.n (rule_of s) w.cell (length old) ≡ run (L s) w.at (min (length old) (s.n - w.at))
       list_is =
           walk_from (lawful s e) w.cell (length old) h.within
           ∙ ap (λ (a : ℕ). run (L s) a (min (length old) (s.n - a))) h.behind
 
-      pub written_min : written ≡ min (length old) (s.n - w.at)
+      pub written_min : c.written ≡ min (length old) (s.n - w.at)
       written_min = written_is ∙ ap length list_is ∙ length_run (L s) w.at (min (length old) (s.n - w.at))
 
       slice_is : new ≡ walk_slice s.n (rule_of s) w.cell old
       slice_is = rw (le-ltb (rule_of s).total w.cell h.within) at (leaf_had Interleaver s refl l).slice
 
-      written_list : take written new ≡ run (L s) w.at written
+      written_list : take c.written new ≡ run (L s) w.at c.written
       unfolding walk_slice
       written_list =
           let front = walk_list s.n (rule_of s) w.cell (length old) in
-          ap (take written) slice_is
+          ap (take c.written) slice_is
           ∙ ap (λ (k : ℕ). take k (front ++ drop (length front) old)) written_is
           ∙ take-append_seam front (drop (length front) old)
           ∙ list_is ∙ ap (run (L s) w.at) (sym written_min)
 
       -- cells fit
-      pub cells_in : w.cell + cells ≤ (rule_of s).total
+      pub cells_in : w.cell + c.cells ≤ (rule_of s).total
       cells_in = rw cells_are (cells_within s.n (rule_of s) w.cell (length old) h.within)
 
-      behind_next : passed_by s.n (rule_of s) (w.cell + cells)
+      behind_next : passed_by s.n (rule_of s) (w.cell + c.cells)
           ≡ passed_by s.n (rule_of s) w.cell + length (walk_list s.n (rule_of s) w.cell (length old))
       behind_next = rw cells_are (passed_on s.n (rule_of s) w.cell (length old))
 
-      pub piece_next : Pieced s w old new (record { at = w.at + written; cell = w.cell + cells })
+      pub piece_next : Pieced s w old new (record { at = w.at + c.written; cell = w.cell + c.cells })
       piece_next = record {
         stands = record {
           within = cells_in;
@@ -116,7 +116,7 @@ module _ (s : Set) (e : Accepted s) {w : Standing} (h : Stands s w) where
           inside = omega (arith, written_min, h.inside);
         };
         moved = omega (arith, written_min);
-        list = rw (let k : w.at + written - w.at ≡ written = omega arith in k) written_list;
+        list = rw (let k : w.at + c.written - w.at ≡ c.written = omega arith in k) written_list;
       }
 
 -- cells fit 16 bits

@@ -6,7 +6,7 @@ ghost use Rattle.std.specs.Prelude.{◌≡◌};
 ghost use Rattle.sets.specs.Admits.{Accepted};
 ghost use Rattle.pieces.specs.Pieces.{Stands, Pieced};
 
-use laws::{Leaf, Way};
+use laws::Way;
 use sets::Set;
 
 // Where a walk for L stands: how many addresses it has written, and the next cell.
@@ -28,13 +28,11 @@ pub fn next(set: Set, from: Standing, piece: &mut [u16]) -> Standing
     requires { Accepted set × Stands set from }
     ensures { Pieced set from piece.old piece.new result }
 {
-    let leaf = leaves::walk(Way::Interleaver, set, from.cell, piece);
-    match leaf {
-        Leaf::Stopped(_) => from,
-        Leaf::Went { written, cells } => {
-            let at = from.at + written;
-            let cell = from.cell + cells;
-            Standing { at, cell }
-        }
+    match leaves::walk(Way::Interleaver, set, from.cell, piece) {
+        Ok(went) => Standing {
+            at: from.at + went.written,
+            cell: from.cell + went.cells,
+        },
+        Err(_) => from,
     }
 }

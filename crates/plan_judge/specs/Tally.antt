@@ -1,7 +1,7 @@
 -- The tally of some positions: the first of them, and how many. What is tallied along a piece of L, and from piece to piece, is the tally of the wrong
 -- positions.
-use Rattle.std.specs.Prelude.{ℕ, suc, max, ◌+◌, ◌*◌, ◌-◌, ◌≤◌, ◌<◌, Bool, true, false, not, cond, ◌&&◌, List, [], ◌∷◌, ◌++◌, ◌≡◌, refl, eqb, ltb, length, get_or}
-use Rattle.std.proofs.Common.{append-nil, sym, ap₂, ◌∙◌, add-zero, zero-add, arith, length-append, get_or-take, eq-eqb, ne_eqb, lt-ltb, le-ltb}
+use Rattle.std.specs.Prelude.{ℕ, suc, max, ◌+◌, ◌*◌, ◌-◌, ◌≤◌, ◌<◌, Bool, true, false, not, cond, ◌&&◌, List, [], ◌∷◌, ◌++◌, ◌≡◌, refl, eqb, ltb, length, get_or, take}
+use Rattle.std.proofs.Common.{append-nil, sym, ap₂, ◌∙◌, add-zero, zero-add, arith, length-append, eq-eqb, ne_eqb, lt-ltb, le-ltb}
 use Rattle.std.proofs.Math.Path.{ap}
 use Rattle.std.proofs.Math.Nat.{sub-zero}
 use Rattle.laws.specs.Run.{run, length_run, get_or_run}
@@ -58,7 +58,7 @@ module _ (t : Tally) (from : ℕ) where
     front : (z : ℕ) → get_or (run (λ p. p) from more) 0 z ≡ from
     front z = ap (λ (k : ℕ). get_or (run (λ p. p) from k) 0 z) some
 
-    pub row_first : t.count ≡ 0 → tally from more ≡ tallied t (run (λ p. p) from more)
+    pub row_first : t.count ≡ 0 → tally from (t.count + more) ≡ tallied t (run (λ p. p) from more)
     row_first e =
         ap₂ tally (sym (rw (eq-eqb t.count 0 e) (front t.first))) (omega (arith, length_run (λ (p : ℕ). p) from more))
 
@@ -94,32 +94,31 @@ module _ (xs : List ℕ) (p a : ℕ) (t : Tally) {b : Bool} (e : b ≡ among xs 
 abbrev pub beside : List ℕ → ℕ → List ℕ → ℕ → Bool
 beside xs at piece p = not (among xs p (get_or piece (p - at) 0))
 
--- what tallying a piece asks: the piece is there, and its positions and the tally are numbers of 32 bits
-pub record Tallying (at : ℕ) (piece : List ℕ) (written : ℕ) (t : Tally) : Type 0 where
-  pub room : written ≤ length piece
-  pub far : at + written < 4294967296
+-- what tallying a piece asks: its positions and the tally are numbers of 32 bits
+pub record Tallying (at : ℕ) (piece : List ℕ) (t : Tally) : Type 0 where
+  pub far : at + length piece < 4294967296
   pub few : t.count ≤ at
 
 -- along a piece: j positions are tallied
-pub record Along (xs : List ℕ) (at : ℕ) (piece : List ℕ) (t₀ t : Tally) (j written : ℕ) : Type 0 where
-  pub here : j ≤ written
+pub record Along (xs : List ℕ) (at : ℕ) (piece : List ℕ) (t₀ t : Tally) (j : ℕ) : Type 0 where
+  pub here : j ≤ length piece
   pub few : t.count ≤ at + j
   pub same : t ≡ tallied t₀ (passing (beside xs at piece) at j)
 
-pub along_first : (xs : List ℕ) (at : ℕ) (piece : List ℕ) (t : Tally) (written : ℕ) → t.count ≤ at → Along xs at piece t t 0 written
+pub along_first : (xs : List ℕ) (at : ℕ) (piece : List ℕ) (t : Tally) → t.count ≤ at → Along xs at piece t t 0
 unfolding keep
-along_first xs at piece t written h = record { here = omega arith; few = omega arith; same = sym (tallied_none t) }
+along_first xs at piece t h = record { here = omega arith; few = omega arith; same = sym (tallied_none t) }
 
 -- one position more
 one_more : (ok : ℕ → Bool) (c n : ℕ) → passing ok c (n + 1) ≡ passing ok c n ++ cond (ok (c + n)) ((c + n) ∷ []) []
 unfolding keep
 one_more ok c n = keep_cut (λ p. p) ok c n 1
 
-module _ {xs : List ℕ} {at : ℕ} {piece : List ℕ} {t₀ t : Tally} {j written : ℕ} (r : Along xs at piece t₀ t j written) where
-  pub along_end : written ≤ j → t ≡ tallied t₀ (passing (beside xs at piece) at written)
-  along_end h = r.same ∙ ap (λ (k : ℕ). tallied t₀ (passing (beside xs at piece) at k)) (let e : j ≡ written = omega (arith, r.here) in e)
+module _ {xs : List ℕ} {at : ℕ} {piece : List ℕ} {t₀ t : Tally} {j : ℕ} (r : Along xs at piece t₀ t j) where
+  pub along_end : length piece ≤ j → t ≡ tallied t₀ (passing (beside xs at piece) at (length piece))
+  along_end h = r.same ∙ ap (λ (k : ℕ). tallied t₀ (passing (beside xs at piece) at k)) (let e : j ≡ length piece = omega (arith, r.here) in e)
 
-  pub along_more : j < written → {a : ℕ} → a ≡ get_or piece j 0 → {t' : Tally} → t' ≡ tally_next xs (at + j) a t → Along xs at piece t₀ t' (j + 1) written
+  pub along_more : j < length piece → {a : ℕ} → a ≡ get_or piece j 0 → {t' : Tally} → t' ≡ tally_next xs (at + j) a t → Along xs at piece t₀ t' (j + 1)
   along_more h {a} q {t'} g = go (among xs (at + j) a) refl
     where
       its_test : beside xs at piece (at + j) ≡ not (among xs (at + j) a)
@@ -131,7 +130,7 @@ module _ {xs : List ℕ} {at : ℕ} {piece : List ℕ} {t₀ t : Tally} {j writt
           one_more (beside xs at piece) at j
           ∙ ap (λ (b : Bool). passing (beside xs at piece) at j ++ cond b ((at + j) ∷ []) []) (its_test ∙ ap not e)
 
-      go : (b : Bool) → among xs (at + j) a ≡ b → Along xs at piece t₀ t' (j + 1) written
+      go : (b : Bool) → among xs (at + j) a ≡ b → Along xs at piece t₀ t' (j + 1)
       go true e =
           let same-t : t' ≡ t = g ∙ rw e in
           record {
@@ -163,27 +162,34 @@ module _ {s : Set} {xs : List ℕ} {w : Standing} {t : Tally} (r : Comparing s x
   abbrev size : ℕ
   size = v.at - w.at
 
+  abbrev piece : List ℕ
+  piece = take size new
+
+  pub many : length piece ≡ size
+  many = ap length q.list ∙ length_run (L s) w.at size
+
   at_is : v.at ≡ w.at + size
   at_is = omega (arith, q.moved)
 
   -- the piece's address at a position is L's
-  same_test : (x : ℕ) → w.at ≤ x → x < w.at + size → beside xs w.at new x ≡ wrong xs (list_of s) x
+  same_test : (x : ℕ) → w.at ≤ x → x < w.at + size → beside xs w.at piece x ≡ wrong xs (list_of s) x
   same_test x l h =
       let k = x - w.at in
-      let a : get_or new k 0 ≡ get_or (list_of s) x 0 =
-      sym (get_or-take size new k 0 (omega arith)) ∙ ap (λ (l : List ℕ). get_or l k 0) q.list
+      let a : get_or piece k 0 ≡ get_or (list_of s) x 0 =
+      ap (λ (l : List ℕ). get_or l k 0) q.list
       ∙ get_or_run (L s) w.at size k 0 (omega arith) ∙ ap (L s) (let z : w.at + k ≡ x = omega arith in z)
       ∙ sym (run_at (L s) s.n x (omega (arith, q.stands.inside))) in
       ap not (ap (among xs x) a
       ∙ sym (ap (λ (b : Bool). ltb x (length xs) && (b && eqb (get_or xs x 0) (get_or (list_of s) x 0)))
       (lt-ltb x (length (list_of s)) (omega (arith, length_run (L s) 0 s.n, q.stands.inside)))))
 
-  pub compare_more : {t' : Tally} → t' ≡ tallied t (passing (beside xs w.at new) w.at (v.at - w.at)) → Comparing s xs v t'
+  pub compare_more : {t' : Tally} → t' ≡ tallied t (passing (beside xs w.at piece) w.at (length piece)) → Comparing s xs v t'
   compare_more {t'} g = record {
     stands = q.stands;
-    few = omega (arith, ap (λ (x : Tally). x.count) g, r.few, kept_or_padding (λ (p : ℕ). p) (beside xs w.at new) w.at (v.at - w.at), at_is);
+    few = omega (arith, ap (λ (x : Tally). x.count) g, r.few, kept_or_padding (λ (p : ℕ). p) (beside xs w.at piece) w.at (length piece), many, at_is);
     same =
-        g ∙ ap (λ (l : List ℕ). tallied t l) (passing_same (beside xs w.at new) (wrong xs (list_of s)) w.at size same_test)
+        g ∙ ap (λ (k : ℕ). tallied t (passing (beside xs w.at piece) w.at k)) many
+        ∙ ap (λ (l : List ℕ). tallied t l) (passing_same (beside xs w.at piece) (wrong xs (list_of s)) w.at size same_test)
         ∙ ap (λ (x : Tally). tallied x (passing (wrong xs (list_of s)) w.at size)) r.same
         ∙ tallied_join (tally 0 0) (passing (wrong xs (list_of s)) 0 w.at) (passing (wrong xs (list_of s)) w.at size)
         ∙ ap tally_of (ap (λ (c : ℕ). passing (wrong xs (list_of s)) 0 w.at ++ passing (wrong xs (list_of s)) c size) (sym (zero-add w.at))

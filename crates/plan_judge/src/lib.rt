@@ -25,20 +25,16 @@ fn more_wrong(tally: Tally, from: usize, more: usize) -> Tally
     requires { (tally.count + more < 4294967296) × (from < 4294967296) }
     ensures { result ≡ tallied tally (run (λ p. p) from more) }
 {
-    let count = tally.count;
     if more == 0 {
         return tally;
     }
-    let many = more as u32;
-    if count == 0 {
-        let first = from as u32;
-        return Tally { first, count: many };
-    }
-    let all = count + many;
-    Tally {
-        first: tally.first,
-        count: all,
-    }
+    let first = if tally.count == 0 {
+        from as u32
+    } else {
+        tally.first
+    };
+    let count = tally.count + more as u32;
+    Tally { first, count }
 }
 
 // Whether a list of a file has this address at a position.
@@ -63,23 +59,14 @@ fn tally_at(file: &[u8], list: Listing, p: usize, address: u16, tally: Tally) ->
     more_wrong(tally, p, 1)
 }
 
-// Tallies a piece of L, its first `written` addresses, which stand at position `at` and on.
-fn tally_piece(
-    file: &[u8],
-    list: Listing,
-    at: usize,
-    piece: &[u16],
-    written: usize,
-    tally: Tally,
-) -> Tally
-    requires { Inside file.now list × Tallying at piece.now written tally }
-    ensures { result ≡ tallied tally (passing (beside (list_at file.now list) at piece.now) at written) }
+// Tallies a piece of L, whose addresses stand at position `at` and on.
+fn tally_piece(file: &[u8], list: Listing, at: usize, piece: &[u16], tally: Tally) -> Tally
+    requires { Inside file.now list × Tallying at piece.now tally }
+    ensures { result ≡ tallied tally (passing (beside (list_at file.now list) at piece.now) at (length piece.now)) }
 {
     let mut t = tally;
-    let mut j = 0;
-    while j < written {
-        t = tally_at(file, list, at + j, piece[j], t);
-        j += 1;
+    for (j, address) in piece.iter().enumerate() {
+        t = tally_at(file, list, at + j, *address, t);
     }
     t
 }
@@ -96,7 +83,7 @@ pub fn compare(set: Set, file: &[u8], list: Listing, piece: &mut [u16]) -> Tally
     while w.at < n {
         let at = w.at;
         w = pieces::next(set, w, piece);
-        tally = tally_piece(file, list, at, piece, w.at - at, tally);
+        tally = tally_piece(file, list, at, &piece[..w.at - at], tally);
     }
     if count <= n {
         return tally;

@@ -1,7 +1,6 @@
 // `differ`: a line for each difference of two files, in file order, and then how many there are.
 use super::{ROOM, read, refused};
 use plan_differ::Difference;
-use plans::differing::Differed;
 use system::System;
 use words::text::Text;
 
@@ -85,16 +84,16 @@ fn show(system: System, left: &[u8], right: &[u8]) {
     };
     for lines in 0..1000000 {
         match plans::differing::differ(left, right, from.plan, from.position) {
-            Differed::Refused(x) => {
+            Err(x) => {
                 refused(system, x);
                 return;
             }
-            Differed::Nothing => {
+            Ok(None) => {
                 put_count(&mut text, lines);
                 text.flush();
                 return;
             }
-            Differed::Found(d) => {
+            Ok(Some(d)) => {
                 put_difference(&mut text, d);
                 from = behind(d);
             }

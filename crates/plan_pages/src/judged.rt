@@ -1,6 +1,6 @@
 // `judge`: a line for each plan of a file.
 use super::{ROOM, read, refused};
-use plans::judging::{Counted, Judged};
+use plans::judging::{Compared, Judged};
 use system::{STDOUT_FILENO, System};
 use words::text::{say, say_line, write};
 
@@ -8,14 +8,14 @@ use words::text::{say, say_line, write};
 fn show(system: System, plan: u32, j: Judged) {
     say(system, STDOUT_FILENO, b"plan ", plan as u64);
     match j {
-        Judged::Equal => {
+        Ok(Compared::Same) => {
             write(system, STDOUT_FILENO, b" equal\n");
         }
-        Judged::Wrong { first, count } => {
+        Ok(Compared::Wrong { first, count }) => {
             say(system, STDOUT_FILENO, b" wrong ", first as u64);
             say_line(system, STDOUT_FILENO, b" ", count as u64);
         }
-        Judged::Refused(x) => {
+        Err(x) => {
             write(system, STDOUT_FILENO, b" ");
             refused(system, x);
         }
@@ -30,8 +30,8 @@ fn show_plans(system: System, file: &[u8], plans: u32) {
 
 fn show_file(system: System, file: &[u8]) {
     match plans::judging::count(file) {
-        Counted::Plans(k) => show_plans(system, file, k),
-        Counted::Refused(x) => refused(system, x),
+        Ok(k) => show_plans(system, file, k),
+        Err(x) => refused(system, x),
     }
 }
 

@@ -1,5 +1,4 @@
 // `plans`: the file of given sets, three arguments a set, on standard output. A refusal is said on standard error, and then nothing is written.
-use plans::writing::{Length, Written};
 use sets::Refusal;
 use system::{STDERR_FILENO, STDOUT_FILENO, System};
 use words::arguments::LONGEST;
@@ -37,10 +36,10 @@ fn take_numbers(system: System, numbers: &mut [u32; NUMBERS], count: usize) -> b
 
 fn write_bytes(system: System, numbers: &[u32], out: &mut [u8]) {
     match plans::writing::write(numbers, out) {
-        Written::Done => {
+        Ok(()) => {
             words::text::write(system, STDOUT_FILENO, out);
         }
-        Written::Refused(x) => refused(system, x),
+        Err(x) => refused(system, x),
     }
 }
 
@@ -53,8 +52,8 @@ fn write_part(system: System, numbers: &[u32], room: &mut [u8], n: usize) {
 
 fn write_file(system: System, numbers: &[u32]) {
     match plans::writing::length_of(numbers) {
-        Length::Refused(x) => refused(system, x),
-        Length::Bytes(b) => {
+        Err(x) => refused(system, x),
+        Ok(b) => {
             let mut out = [0u8; BYTES];
             write_part(system, numbers, &mut out, b as usize);
         }

@@ -1,7 +1,7 @@
 -- The file of given sets, byte by byte, its length, and the test of the sets. These are definitions.
 use Rattle.std.specs.Prelude.{ℕ, ◌+◌, ◌*◌, ◌/◌, List, [], ◌∷◌, ◌++◌, length, get_or}
 use Rattle.laws.specs.Members.{chained}
-use Rattle.laws.specs.Outcome.{Outcome, done, refused, Line, first, settle, judged}
+use Rattle.laws.specs.Outcome.{Outcome, Line, first, settle, judged}
 use Rattle.laws.specs.Run.{run}
 use Rattle.big_end.specs.Numbers.{number_bytes, pair_bytes}
 use Rattle.sets.specs.declared.Set.{Set}
@@ -10,8 +10,6 @@ use Rattle.sets.specs.Verdict.{refusal}
 use Rattle.pieces.specs.Pieces.{list_of}
 use Rattle.plan_form.specs.Form.{entry_place, set_of}
 use Rattle.plan_form.specs.Planned.{planned_lines}
-use Rattle.plan_writer.specs.declared.Measured.{Measured}
-use Rattle.plan_writer.specs.declared.Measured.TheVariants.{Bytes, Refused}
 
 -- the sets that a slice of numbers gives, three numbers a set: profile, bits, N
 unfoldable pub set_at : List ℕ → ℕ → Set
@@ -60,7 +58,3 @@ bad_of (s ∷ ss) = settle (first (planned_lines s)) (λ k. s) (bad_of ss)
 -- what testing sets says, after so many bytes
 unfoldable pub measured_of : List Set → ℕ → Outcome Refusal ℕ
 measured_of ss bytes = judged (refusal (bad_of ss)) (all_lines ss) (bytes + 2 * total_of ss)
-
-abbrev pub say_measured : Measured → Outcome Refusal ℕ
-say_measured (Bytes b) = done b
-say_measured (Refused x) = refused x

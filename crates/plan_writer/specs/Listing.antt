@@ -59,6 +59,9 @@ module _ {s : Set} {out₀ : List ℕ} {at : ℕ} {w : Standing} {out : List ℕ
   file_end h = j.same ∙ ap (λ (k : ℕ). sets out₀ at (list_bytes (run (L s) 0 k))) (let e : w.at ≡ s.n = omega (arith, j.stands.inside) in e)
 
   module _ {old new : List ℕ} {v : Standing} (q : Pieced s w old new v) where
+    pub many : length (take (v.at - w.at) new) ≡ v.at - w.at
+    many = ap length q.list ∙ length_run (L s) w.at (v.at - w.at)
+
     in_two : run (L s) 0 v.at ≡ run (L s) 0 w.at ++ run (L s) w.at (v.at - w.at)
     in_two =
         run_cut (L s) 0 v.at w.at (omega (arith, q.moved))

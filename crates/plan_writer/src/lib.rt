@@ -2,64 +2,47 @@
 // long as the lent slice is. Inner functions: whoever calls them has counted the sets.
 #![tactic(auto)]
 
-ghost use Rattle.std.specs.Prelude.{◌≡◌, ◌+◌, ◌*◌, ◌<◌, ◌≤◌, length, take};
+ghost use Rattle.std.specs.Prelude.{◌≡◌, ◌+◌, ◌*◌, ◌<◌, ◌≤◌, length};
 ghost use Rattle.std.proofs.lemmas.List.Edits.{sets};
+ghost use Rattle.laws.specs.Outcome.{say};
 ghost use Rattle.laws.specs.Run.{run};
 ghost use Rattle.sets.specs.Admits.{Accepted};
 ghost use Rattle.pieces.specs.Pieces.{list_of};
 ghost use Rattle.plan_form.specs.Form.{entry_place};
-ghost use Rattle.plan_writer.specs.File.{set_at, entry_bytes, entries_bytes, list_bytes, lists_bytes, file_of, measured_of, say_measured};
+ghost use Rattle.plan_writer.specs.File.{set_at, entry_bytes, entries_bytes, list_bytes, lists_bytes, file_of, measured_of};
 ghost use Rattle.plan_writer.specs.Storing.{Filed};
 
 use plan_form::ruling_of;
-use sets::{NO_FACTORS, Refusal, Ruled, Set};
-
-// Whether sets are all good, and then a file's length.
-#[derive(Clone, Copy)]
-pub enum Measured {
-    Bytes(usize),
-    Refused(Refusal),
-}
+use sets::{NO_FACTORS, Refusal, Set};
 
 // Set i of a slice of numbers, counted from 0.
 fn set_of(numbers: &[u32], i: usize) -> Set
     requires { 3 * i + 3 ≤ length numbers.now }
     ensures { result ≡ set_at numbers.now i }
 {
-    let at = 3 * i;
-    let profile = numbers[at];
-    let bits = numbers[at + 1];
-    let n = numbers[at + 2];
     Set {
-        profile,
-        bits,
-        n,
+        profile: numbers[3 * i],
+        bits: numbers[3 * i + 1],
+        n: numbers[3 * i + 2],
         stream: 1,
         factors: NO_FACTORS,
     }
 }
 
-// Tests sets in their order, and adds up the length of their file.
-pub fn measure(numbers: &[u32], count: usize) -> Measured
+// Tests sets in their order, and adds up the length of their file; or the refusal of the first that isn't good.
+pub fn measure(numbers: &[u32], count: usize) -> Result<usize, Refusal>
     requires { (count ≤ 16) × (3 * count ≤ length numbers.now) }
-    ensures { say_measured result ≡ measured_of (run (set_at numbers.now) 0 count) (entry_place count) }
+    ensures { say result ≡ measured_of (run (set_at numbers.now) 0 count) (entry_place count) }
 {
     let mut bytes = 4 + 20 * count;
-    let mut tested = 0;
-    while tested < count {
-        let set = set_of(numbers, tested);
-        match ruling_of(set) {
-            Ruled::Stopped(k) => {
-                return Measured::Refused(sets::refusal_of(set, k));
-            }
-            Ruled::Clear => {
-                let n = set.n as usize;
-                bytes += 2 * n;
-                tested += 1;
-            }
+    for i in 0..count {
+        let set = set_of(numbers, i);
+        if let Err(k) = ruling_of(set) {
+            return Err(sets::refusal_of(set, k));
         }
+        bytes += 2 * set.n as usize;
     }
-    Measured::Bytes(bytes)
+    Ok(bytes)
 }
 
 // The five numbers of a plan whose list begins at `offset`.
@@ -81,25 +64,20 @@ fn put_entries(out: &mut [u8], numbers: &[u32], count: usize)
         ≡ sets out.old 4 (entries_bytes (run (set_at numbers.now) 0 count) (entry_place count)) }
 {
     let mut offset = 4 + 20 * count;
-    let mut i = 0;
-    while i < count {
+    for i in 0..count {
         let set = set_of(numbers, i);
-        let n = set.n as usize;
         put_entry(out, 4 + 20 * i, set, offset as u32);
-        offset += 2 * n;
-        i += 1;
+        offset += 2 * set.n as usize;
     }
 }
 
-// The first `written` addresses of a piece, from a place on.
-fn put_piece(out: &mut [u8], at: usize, piece: &[u16], written: usize)
-    requires { (written ≤ length piece.now) × (at + 2 * written ≤ length out.old) }
-    ensures { out.new ≡ sets out.old at (list_bytes (take written piece.now)) }
+// The addresses of a piece, from a place on.
+fn put_piece(out: &mut [u8], at: usize, piece: &[u16])
+    requires { at + 2 * length piece.now ≤ length out.old }
+    ensures { out.new ≡ sets out.old at (list_bytes piece.now) }
 {
-    let mut j = 0;
-    while j < written {
-        big_end::put_pair(out, at + 2 * j, piece[j]);
-        j += 1;
+    for (j, address) in piece.iter().enumerate() {
+        big_end::put_pair(out, at + 2 * j, *address);
     }
 }
 
@@ -113,7 +91,7 @@ fn put_list(out: &mut [u8], at: usize, set: Set, piece: &mut [u16])
     while w.at < n {
         let k = w.at;
         w = pieces::next(set, w, piece);
-        put_piece(out, at + 2 * k, piece, w.at - k);
+        put_piece(out, at + 2 * k, &piece[..w.at - k]);
     }
 }
 
@@ -124,13 +102,10 @@ fn put_lists(out: &mut [u8], numbers: &[u32], count: usize, piece: &mut [u16])
         ≡ sets out.old (entry_place count) (lists_bytes (run (set_at numbers.now) 0 count)) }
 {
     let mut at = 4 + 20 * count;
-    let mut i = 0;
-    while i < count {
+    for i in 0..count {
         let set = set_of(numbers, i);
-        let n = set.n as usize;
         put_list(out, at, set, piece);
-        at += 2 * n;
-        i += 1;
+        at += 2 * set.n as usize;
     }
 }
 

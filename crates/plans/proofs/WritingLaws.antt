@@ -4,7 +4,7 @@ use Rattle.std.specs.Prelude.{ℕ, ◌+◌, ◌*◌, ◌/◌, ◌%◌, ◌≤◌
 use Rattle.std.proofs.Math.Path.{◌≡◌, refl, sym, ap}
 use Rattle.std.proofs.Common.{◌∙◌, arith}
 use borrow.Author.Tests.{eq-eqb, ne_eqb, eqb-true, lt-ltb, le-ltb, ltb-false, not-false}
-use Rattle.laws.specs.Outcome.{Outcome, done, refused, apart, Ruling, clear, stopped, first, settle, judged, after}
+use Rattle.laws.specs.Outcome.{Outcome, done, refused, Ruling, clear, stopped, first, settle, judged, after}
 use Rattle.laws.specs.Outcome.{clear_then, clear_front, clear_back, stopped_front, refused_front, done_clear, clear_first, first_clear, answer_keeps}
 use Rattle.laws.specs.Run.{length_run}
 use Rattle.sets.specs.declared.Refusal.{Refusal}
@@ -12,34 +12,7 @@ use Rattle.sets.specs.Verdict.{refusal}
 use Rattle.plan_form.specs.Form.{entry_place}
 use Rattle.plan_writer.specs.File.{set_at, sets_in, total_of, file_length, all_lines, bad_of, measured_of}
 use Rattle.plan_writer.specs.Storing.{Filed}
-use Rattle.plans.specs.declared.writing.Length.{Length}
-use Rattle.plans.specs.declared.writing.Length.TheVariants as lengths
-use Rattle.plans.specs.declared.writing.Written.{Written}
-use Rattle.plans.specs.declared.writing.Written.TheVariants as writes
-use Rattle.plans.specs.Writing.{count_lines, size_lines, room_lines, length_lines, write_lines, length_of, written_of, say_length, say_written, Good}
-
--- two answers that say the same are the same
-pub lengths_apart : (a b : Length) → say_length a ≡ say_length b → a ≡ b
-lengths_apart = apart say_length read same
-  where
-    read : Outcome Refusal ℕ → Length
-    read (done b) = lengths.Bytes b
-    read (refused x) = lengths.Refused x
-
-    same : (a : Length) → read (say_length a) ≡ a
-    same (lengths.Bytes b) = refl
-    same (lengths.Refused x) = refl
-
-pub writes_apart : (a b : Written) → say_written a ≡ say_written b → a ≡ b
-writes_apart = apart say_written read same
-  where
-    read : Outcome Refusal (Unit {0}) → Written
-    read (done u) = writes.Done
-    read (refused x) = writes.Refused x
-
-    same : (a : Written) → read (say_written a) ≡ a
-    same writes.Done = refl
-    same (writes.Refused x) = refl
+use Rattle.plans.specs.Writing.{count_lines, size_lines, room_lines, length_lines, write_lines, length_of, written_of, Good}
 
 -- asking for the length, return by return. 12 and 6 carry nothing of a set
 module _ (l : List ℕ) where

@@ -1,14 +1,12 @@
 -- Asking for difference after difference: from plan 1, position 0, each time from the place after the last one, until there is none. What is told are all the
 -- differences, in file order, and nothing else.
-use Rattle.std.specs.Prelude.{ℕ, ◌+◌, ◌-◌, true, List, [], ◌∷◌, ◌≡◌, refl}
+use Rattle.std.specs.Prelude.{ℕ, ◌+◌, ◌-◌, true, List, [], ◌∷◌, Option, Some, None, ◌≡◌, refl}
 use Rattle.std.proofs.Common.{sym, ap, ap₂, ◌∙◌, arith}
 use Rattle.laws.specs.Outcome.{done, done_clear}
 use Rattle.sets.specs.Verdict.{refusal}
 use Rattle.plan_form.specs.Form.{set_of, formed}
 use Rattle.plan_differ.specs.declared.Difference.{Difference}
 use Rattle.plan_differ.specs.declared.Difference.TheVariants.{Missing, Header, At}
-use Rattle.plan_differ.specs.declared.Next.{Next}
-use Rattle.plan_differ.specs.declared.Next.TheVariants.{One, Nothing}
 use Rattle.plan_differ.specs.Differences.{differ_from, differences, next_of}
 use Rattle.plan_differ.specs.Listed.{plan_after, place_after, differ_tail}
 use Rattle.plans.specs.Differing.{files_lines, differed_of, differ_both}
@@ -22,11 +20,11 @@ plan_next (At plan p a b) = plan
 -- calls from a place on, and what they are told
 module _ (f g : List ℕ) where
   pub data Asked : ℕ → ℕ → List Difference → Type 0 where
-    last : {plan position : ℕ} → differed_of f g plan position ≡ done Nothing → Asked plan position []
-    more : {plan position : ℕ} {d : Difference} {ds : List Difference} → differed_of f g plan position ≡ done (One d)
+    last : {plan position : ℕ} → differed_of f g plan position ≡ done None → Asked plan position []
+    more : {plan position : ℕ} {d : Difference} {ds : List Difference} → differed_of f g plan position ≡ done (Some d)
         → Asked (plan_next d) (place_after d) ds → Asked plan position (d ∷ ds)
 
-  said : (plan position : ℕ) {n : Next} → differed_of f g plan position ≡ done n → next_of (differ_from f g (plan - 1) position) ≡ n
+  said : (plan position : ℕ) {n : Option Difference} → differed_of f g plan position ≡ done n → next_of (differ_from f g (plan - 1) position) ≡ n
   unfolding differed_of
   said plan position {n} e = (done_clear (refusal (set_of 0 0 0)) (next_of (differ_from f g (plan - 1) position)) (files_lines f g) n e).1
 
@@ -39,12 +37,12 @@ module _ (f g : List ℕ) where
   told_are : {plan position : ℕ} {ds : List Difference} → Asked plan position ds → ds ≡ differ_from f g (plan - 1) position
   told_are (last {plan} {position} e) = none (differ_from f g (plan - 1) position) (said plan position e)
     where
-      none : (l : List Difference) → next_of l ≡ Nothing → [] ≡ l
+      none : (l : List Difference) → next_of l ≡ None → [] ≡ l
       none [] e = refl
       none (d ∷ l) e = let z : ◌≡◌ {A = ℕ} 0 1 = cc in absurd (omega arith)
   told_are (more {plan} {position} {d} {ds} e a) = go (differ_from f g (plan - 1) position) refl (said plan position e) (told_are a)
     where
-      go : (l : List Difference) → differ_from f g (plan - 1) position ≡ l → next_of l ≡ One d → ds ≡ differ_from f g (plan_next d - 1) (place_after d) → d ∷ ds ≡ l
+      go : (l : List Difference) → differ_from f g (plan - 1) position ≡ l → next_of l ≡ Some d → ds ≡ differ_from f g (plan_next d - 1) (place_after d) → d ∷ ds ≡ l
       go [] q e r = let z : ◌≡◌ {A = ℕ} 0 1 = cc in absurd (omega arith)
       go (x ∷ l) q e r =
           let y : d ≡ x = cc in

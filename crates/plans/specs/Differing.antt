@@ -1,42 +1,19 @@
 -- What asking for the next difference of two files answers: 12 for either file, then the first difference from that place on.
-use Rattle.std.specs.Prelude.{ℕ, ◌-◌, true, false, List, [], ◌∷◌, ◌≡◌, refl}
+use Rattle.std.specs.Prelude.{ℕ, ◌-◌, true, false, List, [], ◌∷◌, Option, ◌≡◌}
 use Rattle.std.proofs.Math.Path.{sym, ap}
 use Rattle.std.proofs.Common.{◌∙◌}
-use Rattle.laws.specs.Outcome.{Outcome, done, refused, apart, Line, judged}
+use Rattle.laws.specs.Outcome.{Outcome, done, refused, Line, judged}
 use Rattle.sets.specs.declared.Refusal.{Refusal}
 use Rattle.sets.specs.Verdict.{refusal}
 use Rattle.plan_form.specs.Form.{set_of, formed, file_line}
-use Rattle.plan_differ.specs.declared.Next.{Next}
-use Rattle.plan_differ.specs.declared.Next.TheVariants.{One, Nothing}
+use Rattle.plan_differ.specs.declared.Difference.{Difference}
 use Rattle.plan_differ.specs.Differences.{differ_from, next_of}
-use Rattle.plans.specs.declared.differing.Differed.{Differed}
-use Rattle.plans.specs.declared.differing.Differed.TheVariants as said
 
 abbrev pub files_lines : List ℕ → List ℕ → List Line
 files_lines f g = file_line f ∷ file_line g ∷ []
 
-unfoldable pub differed_of : List ℕ → List ℕ → ℕ → ℕ → Outcome Refusal Next
+unfoldable pub differed_of : List ℕ → List ℕ → ℕ → ℕ → Outcome Refusal (Option Difference)
 differed_of f g plan position = judged (refusal (set_of 0 0 0)) (files_lines f g) (next_of (differ_from f g (plan - 1) position))
-
--- what an answer says
-abbrev pub say_differed : Differed → Outcome Refusal Next
-say_differed (said.Found d) = done (One d)
-say_differed said.Nothing = done Nothing
-say_differed (said.Refused x) = refused x
-
--- two answers that say the same are the same
-pub differences_apart : (a b : Differed) → say_differed a ≡ say_differed b → a ≡ b
-differences_apart = apart say_differed read same
-  where
-    read : Outcome Refusal Next → Differed
-    read (done (One d)) = said.Found d
-    read (done Nothing) = said.Nothing
-    read (refused x) = said.Refused x
-
-    same : (a : Differed) → read (say_differed a) ≡ a
-    same (said.Found d) = refl
-    same said.Nothing = refl
-    same (said.Refused x) = refl
 
 -- return by return. 12 carries nothing of a set
 module _ (f g : List ℕ) (plan position : ℕ) where
@@ -49,6 +26,6 @@ module _ (f g : List ℕ) (plan position : ℕ) where
     unfolding differed_of refusal
     differ_right h = sym (simp (e, h))
 
-    pub differ_both : formed g ≡ true → {i : ℕ} → i ≡ plan - 1 → {d : Next} → d ≡ next_of (differ_from f g i position) → done d ≡ differed_of f g plan position
+    pub differ_both : formed g ≡ true → {i : ℕ} → i ≡ plan - 1 → {d : Option Difference} → d ≡ next_of (differ_from f g i position) → done d ≡ differed_of f g plan position
     unfolding differed_of
     differ_both h q r = ap done (r ∙ ap (λ (i : ℕ). next_of (differ_from f g i position)) q) ∙ sym (simp (e, h))

@@ -4,7 +4,7 @@ use mathlib.Core.List.{List, [], ◌∷◌}
 use Rattle.std.proofs.Math.Path.{sym, ap, ap₂}
 use Rattle.std.proofs.Common.{◌∙◌, zero-add, arith}
 use borrow.Author.Tests.{eq-eqb, ne_eqb, lt-ltb, le-ltb}
-use Rattle.laws.specs.Outcome.{Outcome, done, refused, apart, Line, line, clear, stopped, first, judged}
+use Rattle.laws.specs.Outcome.{Outcome, done, refused, Line, line, clear, stopped, first, judged}
 use Rattle.sets.specs.declared.Set.{Set}
 use Rattle.sets.specs.declared.Refusal.{Refusal}
 use Rattle.sets.specs.Verdict.{refusal}
@@ -15,15 +15,15 @@ use Rattle.plan_form.specs.Lists.{wrongs, list_at, Listed, listed_list}
 use Rattle.plan_form.specs.Planned.{planned_lines}
 use Rattle.plan_judge.specs.declared.Tally.{Tally}
 use Rattle.plan_judge.specs.Tally.{tally_of}
-use Rattle.plans.specs.declared.judging.Counted.{Counted}
-use Rattle.plans.specs.declared.judging.Counted.TheVariants as plans
-use Rattle.plans.specs.declared.judging.Judged.{Judged}
-use Rattle.plans.specs.declared.judging.Judged.TheVariants.{Equal, Wrong, Refused}
+use Rattle.plans.specs.declared.judging.Compared.{Compared}
+use Rattle.plans.specs.declared.judging.Compared.TheVariants.{Same, Wrong}
 
 -- how two lists compare: the same, or the first position at which they differ and how many there are
-pub data Compared : Type 0 where
-  same : Compared
-  wrong : ℕ → ℕ → Compared
+abbrev pub same : Compared
+same = Same
+
+abbrev pub wrong : ℕ → ℕ → Compared
+wrong p c = Wrong p c
 
 -- read off the wrong positions
 abbrev pub compared_by : List ℕ → Compared
@@ -61,41 +61,6 @@ judged_of f plan =
 -- what counting them has to say
 unfoldable pub counted_of : List ℕ → Outcome Refusal ℕ
 counted_of f = judged (refusal (set_of 0 0 0)) (file_line f ∷ []) (plans_in f)
-
--- what answers say
-abbrev pub say_counted : Counted → Outcome Refusal ℕ
-say_counted (plans.Plans k) = done k
-say_counted (plans.Refused x) = refused x
-
-abbrev pub say_judged : Judged → Outcome Refusal Compared
-say_judged Equal = done same
-say_judged (Wrong f c) = done (wrong f c)
-say_judged (Refused x) = refused x
-
--- two answers that say the same are the same
-pub counts_apart : (a b : Counted) → say_counted a ≡ say_counted b → a ≡ b
-counts_apart = apart say_counted read same_again
-  where
-    read : Outcome Refusal ℕ → Counted
-    read (done k) = plans.Plans k
-    read (refused x) = plans.Refused x
-
-    same_again : (a : Counted) → read (say_counted a) ≡ a
-    same_again (plans.Plans k) = refl
-    same_again (plans.Refused x) = refl
-
-pub judged_apart : (a b : Judged) → say_judged a ≡ say_judged b → a ≡ b
-judged_apart = apart say_judged read same_again
-  where
-    read : Outcome Refusal Compared → Judged
-    read (done same) = Equal
-    read (done (wrong f c)) = Wrong f c
-    read (refused x) = Refused x
-
-    same_again : (a : Judged) → read (say_judged a) ≡ a
-    same_again Equal = refl
-    same_again (Wrong f c) = refl
-    same_again (Refused x) = refl
 
 pub told_equal : (t : Tally) → t.count ≡ 0 → same ≡ compared_as t
 told_equal t e = sym (rw (eq-eqb t.count 0 e))

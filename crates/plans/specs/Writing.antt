@@ -3,14 +3,10 @@
 -- Here stand the definitions; what is said of them is proved in proofs/WritingLaws.antt.
 use Rattle.std.specs.Prelude.{ℕ, ◌/◌, ◌%◌, ◌≤◌, not, List, [], ◌∷◌, ◌++◌, eqb, ltb, length}
 use Rattle.std.proofs.Math.Path.{◌≡◌}
-use Rattle.laws.specs.Outcome.{Outcome, done, refused, Line, line, clear, first, judged, after}
+use Rattle.laws.specs.Outcome.{Outcome, Line, line, clear, first, judged, after}
 use Rattle.sets.specs.declared.Refusal.{Refusal}
 use Rattle.sets.specs.Verdict.{refusal}
 use Rattle.plan_writer.specs.File.{sets_in, file_of, file_length, all_lines, bad_of}
-use Rattle.plans.specs.declared.writing.Length.{Length}
-use Rattle.plans.specs.declared.writing.Length.TheVariants as lengths
-use Rattle.plans.specs.declared.writing.Written.{Written}
-use Rattle.plans.specs.declared.writing.Written.TheVariants as writes
 
 -- 12: not three numbers a set, or not 1 to 16 sets
 abbrev pub count_lines : List ℕ → List Line
@@ -40,15 +36,6 @@ written_of l room = judged (refusal (bad_of (sets_in l))) (write_lines l room) t
 -- the buffer after writing
 unfoldable pub buffer_of : List ℕ → List ℕ → List ℕ
 buffer_of l old = after (write_lines l (length old)) (file_of (sets_in l)) old
-
--- what answers say
-abbrev pub say_length : Length → Outcome Refusal ℕ
-say_length (lengths.Bytes b) = done b
-say_length (lengths.Refused x) = refused x
-
-abbrev pub say_written : Written → Outcome Refusal (Unit {0})
-say_written writes.Done = done tt
-say_written (writes.Refused x) = refused x
 
 -- the sets of a file whose length is given: some, few, all good, and their file is no larger than it may be
 pub record Good (l : List ℕ) (b : ℕ) : Type 0 where

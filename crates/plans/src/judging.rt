@@ -1,27 +1,25 @@
 // How many plans a file has, and whether a plan's list is L of its set.
 ghost use Rattle.std.specs.Prelude.{◌≡◌};
-ghost use Rattle.laws.specs.Outcome.{done};
+ghost use Rattle.laws.specs.Outcome.{say};
 ghost use Rattle.plan_form.specs.Lists.{Having};
-ghost use Rattle.plans.specs.Judging.{say_counted, counted_of, say_judged, compared_as, planned_of, judged_of};
+ghost use Rattle.plans.specs.Judging.{counted_of, compared_as, planned_of, judged_of};
 
 use super::PIECE;
 use plan_judge::Tally;
-use sets::{Refusal, Ruled};
+use sets::Refusal;
 
 // The answer of counting plans.
+pub type Counted = Result<u32, Refusal>;
+
+// How a plan's list compares with L: it is the same; or the first wrong position, and how many are wrong. A missing or surplus place is wrong.
 #[derive(Clone, Copy)]
-pub enum Counted {
-    Plans(u32),
-    Refused(Refusal),
+pub enum Compared {
+    Same,
+    Wrong { first: u32, count: u32 },
 }
 
-// The answer of judging a plan: its list is L; or the first wrong position, and how many are wrong. A missing or surplus place is wrong.
-#[derive(Clone, Copy)]
-pub enum Judged {
-    Equal,
-    Wrong { first: u32, count: u32 },
-    Refused(Refusal),
-}
+// The answer of judging a plan.
+pub type Judged = Result<Compared, Refusal>;
 
 // The refusal of a file that is not of the form.
 pub const UNFORMED: Refusal = Refusal {
@@ -34,23 +32,22 @@ const BEYOND: Refusal = Refusal { number: 4, size: 0 };
 
 // How many plans a file has. Refusal 12.
 pub fn count(file: &[u8]) -> Counted
-    ensures { say_counted result ≡ counted_of file.now }
+    ensures { say result ≡ counted_of file.now }
 {
     if !plan_form::well_formed(file) {
-        return Counted::Refused(UNFORMED);
+        return Err(UNFORMED);
     }
-    let plans = plan_form::plans_in(file) as u32;
-    Counted::Plans(plans)
+    Ok(plan_form::plans_in(file) as u32)
 }
 
 // What a tally says.
-fn told(t: Tally) -> Judged
-    ensures { say_judged result ≡ done (compared_as t) }
+fn told(t: Tally) -> Compared
+    ensures { result ≡ compared_as t }
 {
     if t.count == 0 {
-        return Judged::Equal;
+        return Compared::Same;
     }
-    Judged::Wrong {
+    Compared::Wrong {
         first: t.first,
         count: t.count,
     }
@@ -59,32 +56,30 @@ fn told(t: Tally) -> Judged
 // Judges plan i, counted from 0, of a file of the form: the test of its set, then its list.
 fn judge_at(file: &[u8], i: usize) -> Judged
     requires { Having file.now i }
-    ensures { say_judged result ≡ planned_of file.now i }
+    ensures { say result ≡ planned_of file.now i }
 {
     let set = plan_form::set_at(file, i);
-    match plan_form::ruling_of(set) {
-        Ruled::Stopped(k) => Judged::Refused(sets::refusal_of(set, k)),
-        Ruled::Clear => {
-            let list = plan_form::listing_at(file, i);
-            let mut piece = [0u16; PIECE];
-            told(plan_judge::compare(set, file, list, &mut piece))
-        }
+    if let Err(k) = plan_form::ruling_of(set) {
+        return Err(sets::refusal_of(set, k));
     }
+    let list = plan_form::listing_at(file, i);
+    let mut piece = [0u16; PIECE];
+    Ok(told(plan_judge::compare(set, file, list, &mut piece)))
 }
 
 // Judges a plan. Refusals 12, 4, 1, for every profile that isn't 1 to 5, 2, 3.
 pub fn judge(file: &[u8], plan: u32) -> Judged
-    ensures { say_judged result ≡ judged_of file.now plan }
+    ensures { say result ≡ judged_of file.now plan }
 {
     if !plan_form::well_formed(file) {
-        return Judged::Refused(UNFORMED);
+        return Err(UNFORMED);
     }
     let i = plan as usize;
     if i == 0 {
-        return Judged::Refused(BEYOND);
+        return Err(BEYOND);
     }
     if plan_form::plans_in(file) < i {
-        return Judged::Refused(BEYOND);
+        return Err(BEYOND);
     }
     judge_at(file, i - 1)
 }

@@ -1,5 +1,5 @@
 -- Change request 9, the second tool: the differences that are listed are all, in file order, and none where the files' plans agree.
-use Rattle.std.specs.Prelude.{ℕ, max, ◌+◌, ◌-◌, ◌<◌, Bool, true, false, ◌↔◌, ◌≡◌, refl, ltb, length}
+use Rattle.std.specs.Prelude.{ℕ, max, ◌+◌, ◌-◌, ◌<◌, Bool, true, false, ◌↔◌, ◌≡◌, refl, ltb, length, Some}
 use Rattle.std.proofs.lemmas.Bool.{false≢true}
 use mathlib.Core.List.Memᴰ
 use mathlib.Core.List.{List, [], ◌∷◌, ◌++◌, Memᴰ}
@@ -8,7 +8,6 @@ use Rattle.laws.specs.Keep.{keep}
 use Rattle.laws.specs.Members.{chained}
 use Rattle.laws.specs.Run.{run}
 use Rattle.big_end.specs.Numbers.{number_at, pair_at}
-use Rattle.plan_form.specs.declared.Place.TheVariants.{Address}
 use Rattle.plan_form.specs.Form.{plans_in, set_in, addresses_at, list_in, lists_meet, formed}
 use Rattle.plan_form.specs.Gapless.{PlanFile, formed_exactly}
 use Rattle.plan_form.specs.Lists.{wrongs_from, wrongs, place_of}
@@ -121,7 +120,7 @@ abbrev pub other : List ℕ
 other = 0 ∷ 0 ∷ 0 ∷ 1 ∷ 0 ∷ 0 ∷ 0 ∷ 3 ∷ 0 ∷ 0 ∷ 0 ∷ 1 ∷ 0 ∷ 0 ∷ 0 ∷ 48 ∷ 0 ∷ 0 ∷ 0 ∷ 24 ∷ 0 ∷ 0 ∷ 0 ∷ 2 ∷ 0 ∷ 0 ∷ 0 ∷ 17 ∷ []
 
 pub differ_stars : (formed one ≡ true) × (formed other ≡ true)
-    × (differences one other ≡ At 1 1 (Address 16) (Address 17) ∷ [])
+    × (differences one other ≡ At 1 1 (Some 16) (Some 17) ∷ [])
     × (differences one one ≡ [])
     × (formed (one ++ (0 ∷ [])) ≡ false)
 unfolding number_at pair_at set_in addresses_at lists_meet formed wrongs_from same_header lists_differ plan_differs some_differ differ_from keep

@@ -2,7 +2,7 @@
 use native.Mathlib.Omega.{arith}
 use mathlib.Core.Path.{refl}
 use Rattle.plan_form.specs.Lists.{listed_length}
-use Rattle.plan_judge.specs.Tally.{compare_first, compare_more, ended_even, ended_surplus}
+use Rattle.plan_judge.specs.Tally.{compare_first, compare_more, many, ended_even, ended_surplus}
 use borrow.Author.Rules.{rules}
 use Rattle.plan_judge.proofs.compare.Goals as goal
 
@@ -12,15 +12,11 @@ loop-w-init c = (refl, compare_first _ _ c.begin-w.ensures.1 c.begin-w.ensures.0
 pub next-w-requires : goal.next-w-requires
 next-w-requires c = (c.requires.0, c.loop-w.invariant.1.stands)
 
-pub overflow_sub-w : goal.overflow_sub-w
-overflow_sub-w c = omega (arith, c.next-w.ensures.moved)
-
 pub tally_piece-tally-requires : goal.tally_piece-tally-requires
 tally_piece-tally-requires c = (
   c.requires.1,
   record {
-    room = search rules;
-    far = omega (arith, c.next-w.ensures.stands.inside, c.next-w.ensures.moved);
+    far = omega (arith, many c.loop-w.invariant.1 c.next-w.ensures, c.next-w.ensures.stands.inside, c.next-w.ensures.moved);
     few = c.loop-w.invariant.1.few;
   },
 )

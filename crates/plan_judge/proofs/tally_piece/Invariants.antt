@@ -1,11 +1,7 @@
--- `plan_judge::tally_piece` tallies a piece. The loop's invariant: so many of its positions are tallied; the measure is those that are left.
-use Prim.Native.Nat.{◌-◌}
+-- `plan_judge::tally_piece` tallies a piece. The loop's invariant: so many of its positions are tallied.
 use Rattle.plan_form.specs.Lists.{list_at}
 use Rattle.plan_judge.specs.Tally.{Along}
 use Rattle.plan_judge.proofs.tally_piece.Given as goal
 
 abbrev pub invariant-loop-j : goal.invariant-loop-j
-invariant-loop-j l = Along (list_at l.file l.list) l.at l.piece l.initial.t l.t l.j l.written
-
-abbrev pub decreases-loop-j : goal.decreases-loop-j
-decreases-loop-j l = l.written - l.j
+invariant-loop-j l = Along (list_at l.file l.list) l.at l.piece l.initial.t l.t l.j

@@ -1,5 +1,4 @@
--- `plan_writer::put_entries` stores header after header. The loop's invariant: what is still to be stored, stored from here, makes the whole; the measure is
--- the sets that are left.
+-- `plan_writer::put_entries` stores header after header. The loop's invariant: what is still to be stored, stored from here, makes the whole.
 use native.Mathlib.Omega.{arith}
 use Rattle.plan_writer.specs.Storing.{enter_first, enter_end, enter_more, next_fits}
 use Rattle.plan_writer.proofs.put_entries.Goals as goal

@@ -1,12 +1,7 @@
--- `plan_writer::put_entries` stores header after header. The loop's invariant: what is still to be stored, stored from here, makes the whole; the measure is
--- the sets that are left.
-use Prim.Native.Nat.{◌-◌}
+-- `plan_writer::put_entries` stores header after header. The loop's invariant: what is still to be stored, stored from here, makes the whole.
 use Rattle.plan_writer.specs.File.{set_at}
 use Rattle.plan_writer.specs.Storing.{Entering}
 use Rattle.plan_writer.proofs.put_entries.Given as goal
 
 abbrev pub invariant-loop-i : goal.invariant-loop-i
 invariant-loop-i l = Entering (set_at l.numbers) l.count l.initial.out l.out l.offset l.i
-
-abbrev pub decreases-loop-i : goal.decreases-loop-i
-decreases-loop-i l = l.count - l.i

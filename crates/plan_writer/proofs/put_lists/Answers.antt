@@ -1,5 +1,4 @@
--- `plan_writer::put_lists` stores list after list. The loop's invariant: what is still to be stored, stored from here, makes the whole; the measure is the sets
--- that are left.
+-- `plan_writer::put_lists` stores list after list. The loop's invariant: what is still to be stored, stored from here, makes the whole.
 use native.Mathlib.Omega.{arith}
 use mathlib.Core.Path.{refl}
 use Rattle.plan_writer.specs.Storing.{enlist_first, enlist_end, enlist_more, next_good, next_fits}

@@ -1,5 +1,4 @@
 -- `plans::differing::differ` tests both files, and asks for the next difference.
-use mathlib.Core.Path.{sym, ◌∙◌}
 use Rattle.laws.specs.Members.{fails, passes}
 use Rattle.plan_form.specs.Lists.{proper}
 use Rattle.plans.specs.Differing.{differ_left, differ_right, differ_both}
@@ -16,12 +15,7 @@ returns-then-not-well_formed-2 c = differ_right _ _ _ _ (passes c.well_formed-2.
 pub differ_from-requires : goal.differ_from-requires
 differ_from-requires c = (proper (passes c.well_formed-2.ensures (ap not c.if-not-well_formed.false)), proper (passes c.well_formed-3.ensures (ap not c.if-not-well_formed-2.false)))
 
-pub returns-in-One : goal.returns-in-One
-returns-in-One c =
+pub returns : goal.returns
+returns c =
     differ_both _ _ _ _ (passes c.well_formed-2.ensures (ap not c.if-not-well_formed.false)) (passes c.well_formed-3.ensures (ap not c.if-not-well_formed-2.false)) c.index_of.ensures
-    (sym c.in-One.is ∙ c.differ_from.ensures)
-
-pub returns-in-Nothing : goal.returns-in-Nothing
-returns-in-Nothing c =
-    differ_both _ _ _ _ (passes c.well_formed-2.ensures (ap not c.if-not-well_formed.false)) (passes c.well_formed-3.ensures (ap not c.if-not-well_formed-2.false)) c.index_of.ensures
-    (sym c.in-Nothing.is ∙ c.differ_from.ensures)
+    c.differ_from.ensures

@@ -9,8 +9,8 @@ use Rattle.plans.proofs.judging.count.Goals as goal
 pub returns-then-not-well_formed : goal.returns-then-not-well_formed
 returns-then-not-well_formed c = counted_refused _ (fails c.well_formed-2.ensures (ap not c.if-not-well_formed.true))
 
-pub plans_in-plans-requires : goal.plans_in-plans-requires
-plans_in-plans-requires c = (proper (passes c.well_formed-2.ensures (ap not c.if-not-well_formed.false))).long
+pub plans_in-requires : goal.plans_in-requires
+plans_in-requires c = (proper (passes c.well_formed-2.ensures (ap not c.if-not-well_formed.false))).long
 
 pub returns : goal.returns
-returns c = counted_plans _ (passes c.well_formed-2.ensures (ap not c.if-not-well_formed.false)) c.plans_in-plans.ensures.0
+returns c = counted_plans _ (passes c.well_formed-2.ensures (ap not c.if-not-well_formed.false)) c.plans_in.ensures.0

@@ -1,5 +1,0 @@
--- `lent_plans::write` hands on what writing answers.
-use Rattle.lent_plans.proofs.write.Goals as goal
-
-pub returns : goal.returns
-returns c = record { number = rw (← c.write.ensures.answer) c.written.ensures; out = c.write.ensures.buffer }
