@@ -165,7 +165,7 @@ pub fn set(system: System, line: &[u8]) -> Option<Set> {
 }
 
 // AT, which is word i, and LENGTH, which is word k.
-pub fn burst(system: System, line: &[u8], i: usize, k: usize) -> Option<Burst> {
+pub fn burst_of(system: System, line: &[u8], i: usize, k: usize) -> Option<Burst> {
     let at = number(system, line, i, b"AT")?;
     let length = small_number(system, line, k, b"LENGTH", bursts::LONGEST, b"1024")?;
     if length == 0 {

@@ -83,7 +83,7 @@ pub fn in_form(c: Command, line: &[u8]) -> bool {
         Command::Stream(_) | Command::Differ => has_only(line, 3),
         Command::Burst(_) => has_only(line, 4),
         Command::BurstPicture(_) => {
-            word(line, 2) == b"burst" && (has_only(line, 3) || has_only(line, 5))
+            matches!(word(line, 2), b"burst") && (has_only(line, 3) || has_only(line, 5))
         }
         Command::At | Command::To => has(line, 5),
         Command::Walk => has(line, 6),

@@ -87,7 +87,7 @@ fn fill_stream(system: System, way: Way, kind: u32, line: &[u8]) {
 
 // A burst in the channel as a table.
 fn show_burst(system: System, kind: u32, line: &[u8]) {
-    if let Some(b) = asked::burst(system, line, 2, 3) {
+    if let Some(b) = asked::burst_of(system, line, 2, 3) {
         bursts::page::table(system, kind, b.at, b.length);
     }
 }
@@ -98,7 +98,7 @@ fn draw_burst(system: System, kind: u32, line: &[u8]) {
         bursts::picture::picture(system, kind, 0, Sizes::of(kind).branches as u32);
         return;
     }
-    if let Some(b) = asked::burst(system, line, 3, 4) {
+    if let Some(b) = asked::burst_of(system, line, 3, 4) {
         bursts::picture::picture(system, kind, b.at, b.length);
     }
 }

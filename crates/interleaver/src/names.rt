@@ -7,10 +7,10 @@ use named::{among, name, value};
 use system::System;
 
 fn is_known(word: &[u8]) -> bool {
-    match name(word) {
-        b"stream" | b"f1" | b"f2" | b"p0" | b"p1" | b"p2" | b"p3" => true,
-        _ => false,
-    }
+    matches!(
+        name(word),
+        b"stream" | b"f1" | b"f2" | b"p0" | b"p1" | b"p2" | b"p3"
+    )
 }
 
 // Whether the named words of a line all have names that are known. The first that has not is told.
