@@ -1,6 +1,6 @@
 -- The lines of a received block against what is stored: 14, 13, 15, each over the whole block before the next. l is the list that says which position
 -- a value goes to.
-use Rattle.std.specs.Prelude.{ℕ, ◌<◌, Bool, true, false, List, [], ◌∷◌, ◌≢◌, ◌≡◌, refl, ltb, get_or}
+use Rattle.std.specs.Prelude.{ℕ, ◌<◌, Bool, true, false, List, [], ◌∷◌, Result, Ok, Err, ◌≡◌, refl, ltb, get_or}
 use Rattle.std.proofs.Common.{ap, ap₂, arith}
 use Rattle.std.specs.Float.{nan}
 use Rattle.laws.specs.Outcome.{Line, line, Ruling, clear, stopped, first, settle}
@@ -29,19 +29,18 @@ module _ (l : ℕ → ℕ) (b : Reception) (h : Kept) where
 abbrev pub value_lines : (ℕ → ℕ) → ℕ → Reception → Kept → List Line
 value_lines l n b h = first_of (any (is_high l b h) n) (any (is_spoiled l b h) n) (any (is_full l b h) n)
 
--- the number of a ruling, 0 where it is clear
-abbrev pub ruled : Ruling → ℕ
-ruled r = settle r (λ k. k) 0
+-- a ruling as an answer: the number of the line that applies, if one does
+abbrev pub ruled : Ruling → Result (Unit {0}) ℕ
+ruled r = settle r Err (Ok tt)
 
-pub ruled_clear : (x y z : Bool) → ruled (first (first_of x y z)) ≡ 0 → first (first_of x y z) ≡ clear
-ruled_clear true y z e = absurd (omega arith)
-ruled_clear false true z e = absurd (omega arith)
-ruled_clear false false true e = absurd (omega arith)
-ruled_clear false false false e = refl
+-- which tells the ruling
+pub ruled_clear : (r : Ruling) → ruled r ≡ Ok tt → r ≡ clear
+ruled_clear clear e = refl
+ruled_clear (stopped k) e = cc
 
-pub ruled_stopped : (r : Ruling) → ruled r ≢ 0 → r ≡ stopped (ruled r)
-ruled_stopped clear n = absurd (n refl)
-ruled_stopped (stopped k) n = refl
+pub ruled_stopped : (r : Ruling) (k : ℕ) → ruled r ≡ Err k → r ≡ stopped k
+ruled_stopped clear k e = cc
+ruled_stopped (stopped j) k e = let same : j ≡ k = cc in ap stopped same
 
 -- by lists that are the same below n
 module _ (f g : ℕ → ℕ) (n : ℕ) (b : Reception) (h : Kept) (same : (t : ℕ) → t < n → f t ≡ g t) where

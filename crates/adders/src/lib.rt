@@ -1,5 +1,6 @@
 // Repeated receptions added up, by a table of addresses: two lengths asked as one, the loop that judges a received block against what is stored, and the
-// loop that adds it. Whoever calls the loops has filled the table and judged the lengths. No value decides where anything goes.
+// loop that adds it. Whoever calls the loops has filled the table and judged the lengths. No value decides where anything goes. What is received and what
+// is stored come as the slices that C lends: a struct of two `&mut` slices would ask two clauses more of each function, that it still lends the same ones.
 #![tactic(auto)]
 
 ghost use Rattle.std.specs.Prelude.{◌≡◌, length};
@@ -20,30 +21,33 @@ pub fn off(n: usize, a: usize, b: usize) -> usize
     b
 }
 
-// The first of 14, 13, 15 that applies, or 0.
-fn first_of(high: bool, spoiled: bool, full: bool) -> u32
+// What judging says: the first of 14, 13, 15 that applies, if one does.
+pub type Judgement = Result<(), u32>;
+
+// The first of the three, of those that apply.
+fn first_of(high: bool, spoiled: bool, full: bool) -> Judgement
     ensures { result ≡ ruled (first (first_of high spoiled full)) }
 {
     if high {
-        return 14;
+        return Err(14);
     }
     if spoiled {
-        return 13;
+        return Err(13);
     }
     if full {
-        return 15;
+        return Err(15);
     }
-    0
+    Ok(())
 }
 
-// Judges a block against what is stored: 14, 13, 15, each over the whole block before the next; 0 where none applies.
+// Judges a block against what is stored: 14, 13, 15, each over the whole block before the next.
 pub fn judge_by(
     table: &[u16],
     received: &[f32],
     present: &[u8],
     sums: &[f32],
     counts: &[u16],
-) -> u32
+) -> Judgement
     requires { Fitting table.now (reception received.now present.now) (kept sums.now counts.now) }
     ensures { result ≡ ruled (first (value_lines (by table.now) (length received.now)
         (reception received.now present.now) (kept sums.now counts.now))) }

@@ -1,6 +1,6 @@
 -- The walk for M, a column at a time. Input k is row k mod d of column k/d; c is N/d. A column's group of s is turned back by one with each
 -- row. The address is base + turn, both stepped by additions.
-use Rattle.std.specs.Prelude.{◌≡◌, refl, ℕ, ◌+◌, ◌-◌, ◌*◌, ◌/◌, ◌%◌, ◌≤◌, ◌<◌}
+use Rattle.std.specs.Prelude.{◌≡◌, ℕ, ◌+◌, ◌-◌, ◌*◌, ◌/◌, ◌%◌, ◌≤◌, ◌<◌}
 use Rattle.std.proofs.Common.{sym, ap, ◌∙◌, mod-lt, mul-zero, mul-le-mul_left, arith}
 use Rattle.std.proofs.Math.Nat.{mod-le, mul-add-mod_self_left, add-mul-mod_self_left, div-add-mod}
 use Rattle.laws.specs.Digits.{high_below}
@@ -21,10 +21,6 @@ pub record ColumnIn (c n s col row : ℕ) : Type 0 where
   pub n_small : n < 65536
   pub row_in : row ≤ n
   pub place_small : c * row + col < 65536
-
--- by division
-pub column_new : (c n s col row : ℕ) → ColumnAt c n s col row (record { base = c * row + (col - col % s); low = col % s; turn = (col + n - row) % s })
-column_new c n s col row = record { low_is = refl; base_is = omega (arith, mod-le col s); turn_is = refl }
 
 -- what a column's steps need
 pub record ColumnStep (c s : ℕ) (at : ColumnSpot) : Type 0 where

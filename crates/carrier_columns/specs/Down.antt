@@ -4,7 +4,7 @@ use Rattle.std.proofs.Common.{sym, ap, ◌∙◌, subst, mod-lt, mul-le-mul_left
 use Rattle.std.proofs.Math.Nat.{mod-le, div-add-mod}
 use Rattle.laws.specs.Digits.{high_below}
 use Rattle.laws.specs.Sized.{Sized, row_whole}
-use Rattle.laws.specs.Lanes.{Going, going_first, going_next, Lanewise, Part}
+use Rattle.laws.specs.Lanes.{Going, going_next, Lanewise, Part}
 use Rattle.carrier_columns.specs.declared.ColumnSpot.{ColumnSpot}
 use Rattle.carrier.specs.Formula.{carrier_m}
 use Rattle.carrier.proofs.Once.{carrier_once}
@@ -28,9 +28,6 @@ abbrev pub Columns : ℕ → ℕ → ℕ → ℕ → ℕ → List ℕ → List �
 Columns d n s = Lanewise (carrier_m d n s) d (ColumnAt (n / d) n s)
 
 module _ {d n s c row col from stop : ℕ} {start : ColumnSpot} {out₀ : List ℕ} (z : DownIn d n s c col row start from stop out₀) where
-  pub down_first : Down d n s col row from stop out₀ out₀ start from
-  down_first = going_first (carrier_m d n s) (d * col) (ColumnAt (n / d) n s col) (let h = z.part.more in omega arith) z.spot
-
   module _ {out : List ℕ} {at : ColumnSpot} {i : ℕ} (g : Down d n s col row from stop out₀ out at i) (h : i < stop) where
     pub row_in : row + (i - from) < d
     row_in = omega (arith, z.part.ends, g.since)

@@ -122,7 +122,8 @@ pub fn address(b: Carrier, k: usize) -> usize
     ColumnSpot::new(b, c, col, row).address()
 }
 
-// Writes M from a cell on, as far as there is room and cells; gives back how many.
+// Writes M from a cell on, as far as there is room and cells; gives back how many. (The loop counts no index: a pass goes on to where its column ends,
+// and i, col, row and the spot all go there at once.)
 pub fn write(b: Carrier, cell: usize, out: &mut [u16]) -> usize
     requires { Block b.d b.n b.s cell }
     ensures { Ran (carrier_m b.d b.n b.s) b.n cell out.old out.new result }

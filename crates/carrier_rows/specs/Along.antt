@@ -28,11 +28,8 @@ Along d n s row = Going (carrier_l d n s) (n / d * row) (RowAt d s row)
 abbrev pub Rows : ℕ → ℕ → ℕ → ℕ → ℕ → List ℕ → List ℕ → ℕ → ℕ → RowSpot → ℕ → Type 0
 Rows d n s = Lanewise (carrier_l d n s) (n / d) (RowAt d s)
 
--- the numbers of a set-up fit
+-- the rows are the block, and a turn's part of an address fits it
 module _ {d n s : ℕ} (z : Sized d n s) where
-  pub top_fits : d * (s - 1) ≤ n
-  top_fits = omega (arith, group_le z, mul-le-mul_left d (let h : s - 1 ≤ s = omega arith in h))
-
   pub rows_whole : n ≡ n / d * d
   rows_whole = sym (mul_comm (n / d) d ∙ row_whole z)
 

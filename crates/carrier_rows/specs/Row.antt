@@ -1,8 +1,8 @@
 -- The walk for L, a row of the output at a time. Cell t is column t mod c of row t/c, c being N/d; a column's group of s is turned by its
 -- row. The address is base + lift, both stepped by additions.
-use Rattle.std.specs.Prelude.{◌≡◌, refl, ℕ, ◌+◌, ◌-◌, ◌*◌, ◌/◌, ◌%◌, ◌≤◌, ◌<◌}
+use Rattle.std.specs.Prelude.{◌≡◌, ℕ, ◌+◌, ◌-◌, ◌*◌, ◌/◌, ◌%◌, ◌<◌}
 use Rattle.std.proofs.Common.{sym, ap, ◌∙◌, mod-lt, mod-eq_of_lt, mul-le-mul_left, mul-zero, arith}
-use Rattle.std.proofs.Math.Nat.{mod-add-mod, mod-le, mod_self, mul-div_cancel_left, mul-add-mod_self_left, div-add-mod}
+use Rattle.std.proofs.Math.Nat.{mod-add-mod, mod_self, mul-div_cancel_left, mul-add-mod_self_left, div-add-mod}
 use Rattle.laws.specs.Digits.{high_below}
 use Rattle.laws.specs.Sized.{Sized, groups_pos, row_length, row_whole}
 use Rattle.carrier_rows.specs.declared.RowSpot.{RowSpot}
@@ -22,21 +22,6 @@ pub record RowIn (d s row col : ℕ) : Type 0 where
   pub place_small : d * col + row < 65536
   pub group_small : d * s < 65536
 
-module _ {d s row col : ℕ} (z : RowIn d s row col) where
-  pub base_fits : d * (col - col % s) + row < 65536
-  base_fits = omega (arith, z.place_small, mul-le-mul_left d (let h : col - col % s ≤ col = omega arith in h))
-
-  pub lift_fits : d * ((col + row) % s) < 65536
-  lift_fits = omega (arith, z.group_small, mul-le-mul_left d (let h = mod-lt (col + row) z.s_pos in let g : (col + row) % s ≤ s = omega arith in g))
-
--- by division
-pub row_new : (d s row col : ℕ) → RowAt d s row col (record { base = d * (col - col % s) + row; low = col % s; lift = d * ((col + row) % s) })
-row_new d s row col = record {
-  low_is = refl;
-  base_is = omega (arith, ap (λ (x : ℕ). d * x) (let h : col ≡ (col - col % s) + col % s = omega (arith, mod-le col s) in h));
-  lift_is = refl;
-}
-
 -- what a row's steps need: top is the last lift, group the addresses that a whole group takes
 pub record RowStep (d s top group : ℕ) (at : RowSpot) : Type 0 where
   pub d_pos : 0 < d
@@ -47,9 +32,6 @@ pub record RowStep (d s top group : ℕ) (at : RowSpot) : Type 0 where
   pub base_small : at.base < 65536
   pub low_small : at.low < 65536
   pub lift_small : at.lift < 65536
-
-pub d_small : {d s top group : ℕ} {at : RowSpot} → RowStep d s top group at → d < 65536
-d_small {d} z = omega (arith, z.group_small, mul-le-mul_left d z.s_pos)
 
 -- the lift of the next turn: d more, or 0 after the last
 module _ {d s : ℕ} (hd : 0 < d) {turn lift : ℕ} (inside : turn < s) (e : lift ≡ d * turn) where

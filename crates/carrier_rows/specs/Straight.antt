@@ -1,9 +1,9 @@
 -- The walk for L along a row where s is 1: nothing is turned, and each address is d more than the one before. Rests on Along.
 use Rattle.std.specs.Prelude.{◌≡◌, List, ℕ, ◌+◌, ◌*◌, ◌%◌, ◌<◌, set}
-use Rattle.std.proofs.Common.{sym, ap, ◌∙◌, subst, mod-lt, mul-zero, mul-one, arith}
+use Rattle.std.proofs.Common.{sym, ap, ◌∙◌, mod-lt, mul-zero, arith}
 use Rattle.carrier_rows.specs.declared.RowSpot.{RowSpot}
 use Rattle.carrier_rows.specs.Row.{RowAt}
-use Rattle.carrier_rows.specs.Along.{AlongIn, Along, along_first, address_small, along_next}
+use Rattle.carrier_rows.specs.Along.{AlongIn, Along, address_small, along_next}
 
 -- where such a walk stands
 abbrev pub unturned : ℕ → RowSpot
@@ -30,23 +30,6 @@ module _ {d row col : ℕ} where
     lift_is = sym (no_part d (col + 1 + row));
   }
 
--- a part of a row where s is 1 is one where it is written as 1
-module _ {d n s top group row col from stop : ℕ} {start : RowSpot} {out : List ℕ} (e : s ≡ 1) where
-  pub straight_in : AlongIn d n s top group row col start from stop out → AlongIn d n 1 0 d row col start from stop out
-  straight_in z = record {
-    size = rw e at z.size;
-    top_is = sym (mul-zero d);
-    group_is = sym (mul-one d);
-    small = z.small;
-    spot = rw e at z.spot;
-    part = z.part;
-  }
-
-pub straight_out : (d n row : ℕ) {s col from stop i : ℕ} {out₀ out : List ℕ} {at : RowSpot} → s ≡ 1
-    → Along d n 1 row col from stop out₀ out at i → Along d n s row col from stop out₀ out at i
-straight_out d n row {s} {col} {from} {stop} {i} {out₀} {out} {at} e g =
-    subst (λ (x : ℕ). Along d n x row col from stop out₀ out at i) (sym e) g
-
 module _ {d n row col from stop : ℕ} {start : RowSpot} {out₀ : List ℕ} (z : AlongIn d n 1 0 d row col start from stop out₀) where
   unturned_in : AlongIn d n 1 0 d row col (unturned start.base) from stop out₀
   unturned_in = record {
@@ -57,9 +40,6 @@ module _ {d n row col from stop : ℕ} {start : RowSpot} {out₀ : List ℕ} (z 
     spot = straight_spot z.spot;
     part = z.part;
   }
-
-  pub straight_first : Along d n 1 row col from stop out₀ out₀ (unturned start.base) from
-  straight_first = along_first unturned_in
 
   module _ {out : List ℕ} {a i : ℕ} (g : Along d n 1 row col from stop out₀ out (unturned a) i) (h : i < stop) where
     pub straight_small : a < 65536

@@ -158,7 +158,8 @@ pub fn address(b: Carrier, t: usize) -> usize
 }
 
 // Writes L from a cell on, as far as there is room and cells; gives back how many. stop is where the row ends, or the room. N and the
-// cell are divided in 32 bits, which they fit; in 64 that takes longer, or the compiled code asks first whether 32 would do.
+// cell are divided in 32 bits, which they fit; in 64 that takes longer, or the compiled code asks first whether 32 would do. (The loop counts no
+// index: a pass goes on to stop, and i, row, col and the spot all go there at once.)
 pub fn write(b: Carrier, cell: usize, out: &mut [u16]) -> usize
     requires { Block b.d b.n b.s cell }
     ensures { Ran (carrier_l b.d b.n b.s) b.n cell out.old out.new result }

@@ -27,6 +27,10 @@ lent_lines s b h =
 abbrev pub coupled_line : Set → Line
 coupled_line s = line 1 (is_coupled (family_of s))
 
+-- the answer of that test alone
+abbrev pub plain_of : Set → Outcome Refusal (Unit {0})
+plain_of s = judged (refusal s) (coupled_line s ∷ []) tt
+
 -- adding a block: 1 of couples, then 1, 2, 3, 16, 11, 10, and these
 unfoldable pub add_lines : Set → Reception → Kept → List Line
 add_lines s b h = coupled_line s ∷ (set_lines s ++ lent_lines s b h)

@@ -1,17 +1,17 @@
 -- What stands behind each return of a reading: 1 of couples, the test of the set, which tells 1, 2, 3, 16, 11 and 10, then the position and the two lengths.
-use Rattle.std.specs.Prelude.{ℕ, ◌≤◌, ◌<◌, true, false, not, List, [], ◌∷◌, ◌≢◌, ◌≡◌, leb, length}
+use Rattle.std.specs.Prelude.{ℕ, ◌≤◌, ◌<◌, false, not, List, [], ◌∷◌, ◌++◌, ◌≢◌, ◌≡◌, leb, length}
 use Rattle.std.proofs.Math.Path.{sym}
 use Rattle.std.proofs.Common.{ap, ◌∙◌}
 use borrow.Author.Tests.{eq-eqb, ne_eqb, le-leb, lt-leb}
-use Rattle.laws.specs.Outcome.{done, refused, Line, line, first}
+use Rattle.laws.specs.Outcome.{done, refused, Line, line, first, refused_front}
 use Rattle.sets.specs.declared.Set.{Set}
 use Rattle.sets.specs.declared.Refusal.{Refusal}
 use Rattle.sets.specs.Set.{family_of, is_coupled}
-use Rattle.sets.specs.Verdict.{refusal, verdict_of}
+use Rattle.sets.specs.Verdict.{set_lines, refusal, verdict_of}
 use Rattle.sets.specs.Admits.{Accepted}
 use Rattle.sets.proofs.Admits.{accepted_front, set_refused}
 use Rattle.positions.specs.Heard.{Kept, held}
-use Rattle.combine.specs.Answer.{told_of, both_long, read_lines, read_of}
+use Rattle.combine.specs.Answer.{coupled_line, plain_of, told_of, both_long, read_lines, read_of}
 use Rattle.adders.specs.Lengths.{one_off, off_both}
 
 module _ (s : Set) (h : Kept) (k : ℕ) where
@@ -19,9 +19,9 @@ module _ (s : Set) (h : Kept) (k : ℕ) where
   behind = line 4 (leb s.n k) ∷ line 6 (not (both_long s.n h.sums h.counts)) ∷ []
 
   -- of couples: 1
-  pub is_one : {x : Refusal} → is_coupled (family_of s) ≡ true → x ≡ refusal s 1 → refused x ≡ read_of s h k
+  pub is_one : {x : Refusal} → refused x ≡ plain_of s → refused x ≡ read_of s h k
   unfolding read_of read_lines
-  is_one c q = rw c (ap refused q)
+  is_one e = sym (refused_front (refusal s) tt (coupled_line s ∷ []) (set_lines s ++ behind) (sym e) (told_of (held h k)))
 
   module _ (c : is_coupled (family_of s) ≡ false) where
     pub set_refuses : {x : Refusal} → verdict_of s ≡ refused x → refused x ≡ read_of s h k

@@ -23,8 +23,9 @@ pub fn address(way: Way, set: Set, x: usize) -> usize
     requires { Taken set Coupled × (x < set.n) }
     ensures { result ≡ (rule_in way set).l x }
 {
+    let couples = sets::couples_of(set);
     match way {
-        Way::Interleaver => couples_walk::address_of(sets::couples_of(set), x),
-        Way::Deinterleaver => couples_walk::place_of(sets::couples_of(set), x),
+        Way::Interleaver => couples_walk::address_of(couples, x),
+        Way::Deinterleaver => couples_walk::place_of(couples, x),
     }
 }

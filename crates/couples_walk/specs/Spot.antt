@@ -2,7 +2,7 @@
 -- cell on, and the search for the output of a couple, as Resting and Seek of laws have them. Rests on the formula of couples.
 use Rattle.std.specs.Prelude.{List, ◌≡◌, ℕ, ◌+◌, ◌-◌, ◌*◌, ◌/◌, ◌%◌, ◌≤◌, ◌<◌}
 use Rattle.std.proofs.Math.Path.{sym, ap, ap₂}
-use Rattle.std.proofs.Common.{◌∙◌, mul-le-mul, arith}
+use Rattle.std.proofs.Common.{◌∙◌, arith}
 use Rattle.std.proofs.Math.Nat.{add-mod, mod-add-div, mod-lt}
 use Rattle.laws.specs.Residue.{same}
 use Rattle.laws.specs.Resting.{Family, WalkOf}
@@ -51,12 +51,6 @@ module _ (c : Couples) (j : ℕ) where
         let r = offset c ((j + 1) % 4) in
         sym (add-mod (c.p0 * j + q) (c.p0 + r + (c.n - q % c.n)) c.n)
         ∙ same c.n (1 + q / c.n) (c.p0 * (j + 1) + r) (omega (arith, mod-lt q h, mod-add-div q c.n))
-
--- the product of a set-up fits
-pub product_fits : {c : Couples} {j : ℕ} → Block c j → c.p0 * j ≤ 67108864
-product_fits b =
-    let s = b.numbered in
-    mul-le-mul {n₂ = 8192} {m₂ = 8192} (omega (arith, s.below.p0_in, s.small)) (omega (arith, b.cell_in, s.small))
 
 -- what the five numbers are at output j
 pub record SpotAt (c : Couples) (j : ℕ) (at : Spot) : Type 0 where

@@ -41,17 +41,8 @@ pub record Spreading (n : ℕ) (old new : List ℕ) (j : ℕ) : Type 0 where
   pub before : (t : ℕ) → t < 2 * j → by new t ≡ by old t
   pub behind : (t : ℕ) → 2 * j ≤ t → t < 2 * n → by new t ≡ symbol_l (by old) t
 
-pub spread_first : {n : ℕ} {old : List ℕ} → OfCouples n old → Spreading n old old n
-spread_first p = record { coupled = p; far = omega arith; long = refl; before = λ t h. refl; behind = λ t h k. absurd (omega arith) }
-
-pub spread_all : {n j : ℕ} {old new : List ℕ} → Spreading n old new j → j ≡ 0 → Spread n old new
-spread_all s e = record { long = s.long; symbols = λ t h. s.behind t (omega arith) h }
-
 -- one output further to the front, of which the entry is still the couple
 module _ {n j : ℕ} {old new : List ℕ} (s : Spreading n old new j) (h : 0 < j) where
-  pub couple_in : by new (j - 1) < 32768
-  couple_in = rw (s.before (j - 1) (omega arith)) (omega (arith, s.coupled.below (j - 1) (omega (arith, s.far)), s.coupled.small))
-
   room : 2 * j ≤ length new
   room = omega (arith, s.coupled.room, s.far, s.long)
 

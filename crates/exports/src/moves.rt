@@ -16,7 +16,7 @@ pub extern "C" fn interleaver_interleave_bytes(set: &[u32; SET], src: &[u8], dst
     ensures output { dst.new
         ≡ moved Interleaver (set_of set.now) 0 src.now dst.old }
 {
-    lent::moves::move_bytes(Way::Interleaver, set, src, dst)
+    lent::moves::move_block::<u8>(Way::Interleaver, set, src, dst)
 }
 
 // Deinterleaves a block of bytes.
@@ -30,7 +30,7 @@ pub extern "C" fn interleaver_deinterleave_bytes(
     ensures output { dst.new
         ≡ moved Deinterleaver (set_of set.now) 0 src.now dst.old }
 {
-    lent::moves::move_bytes(Way::Deinterleaver, set, src, dst)
+    lent::moves::move_block::<u8>(Way::Deinterleaver, set, src, dst)
 }
 
 // Interleaves a block of soft values.
@@ -40,7 +40,7 @@ pub extern "C" fn interleaver_interleave_soft(set: &[u32; SET], src: &[f32], dst
     ensures output { dst.new
         ≡ moved Interleaver (set_of set.now) nan src.now dst.old }
 {
-    lent::moves::move_soft(Way::Interleaver, set, src, dst)
+    lent::moves::move_block::<f32>(Way::Interleaver, set, src, dst)
 }
 
 // Deinterleaves a block of soft values.
@@ -54,7 +54,7 @@ pub extern "C" fn interleaver_deinterleave_soft(
     ensures output { dst.new
         ≡ moved Deinterleaver (set_of set.now) nan src.now dst.old }
 {
-    lent::moves::move_soft(Way::Deinterleaver, set, src, dst)
+    lent::moves::move_block::<f32>(Way::Deinterleaver, set, src, dst)
 }
 
 // Interleaves a block of symbols of `width` bytes.

@@ -1,9 +1,11 @@
 -- A line's room of 512 bytes with s after its first bytes: s is stored there byte by byte as far as there is room, and nothing else changes.
 -- `in_full`: where all of s has room, that is the first bytes, then s, then what stood behind it.
-use Rattle.std.specs.Prelude.{ℕ, suc, ◌+◌, ◌-◌, ◌≤◌, ◌<◌, min, ◌≡◌, refl, List, ◌++◌, length, take, drop, get_or, set}
-use Rattle.std.proofs.Common.{◌∙◌, sym, add-one, arith, drop_of_length-le, drop-cons, take_all}
+use Rattle.std.specs.Prelude.{ℕ, ◌+◌, ◌-◌, ◌≤◌, ◌<◌, min, ◌≡◌, refl, Bool, true, false, ltb, List, ◌++◌, length, take, drop}
+use Rattle.std.proofs.Common.{◌∙◌, ap, sym, append_assoc, arith, ltb-true, ltb-false, take_all, length-take}
+use Rattle.std.proofs.lemmas.List.{take-append-drop}
+use borrow.Rule.Slice.PartMut.{put_mid}
 use Rattle.std.proofs.lemmas.List.Edits.{sets, sets-eq}
-use Rattle.std.proofs.Math.Seq.{take-nil}
+use Rattle.std.proofs.Math.Seq.{drop-drop}
 
 unfoldable pub appended : List ℕ → ℕ → List ℕ → List ℕ
 appended room from s = sets room from (take (512 - from) s)
@@ -17,32 +19,40 @@ pub in_full : (room : List ℕ) (from : ℕ) (s : List ℕ) → length room ≡ 
 unfolding appended
 in_full room from s l h = rw (take_all (512 - from) s (omega arith)) (sets-eq s room from (omega arith))
 
--- the loop: i bytes of s are in
-pub record Appending (room : List ℕ) (from : ℕ) (s after : List ℕ) (at i : ℕ) : Type 0 where
-  pub here : at ≡ from + i
-  pub some : i ≤ length s
-  pub fits : i ≤ 512 - from
-  pub same : sets after at (take (512 - at) (drop i s)) ≡ appended room from s
+-- what has room of s
+has_room : (from : ℕ) (s : List ℕ) → take (min (length s) (512 - from)) s ≡ take (512 - from) s
+has_room from s = go (ltb (512 - from) (length s)) refl
+  where
+    go : (t : Bool) → ltb (512 - from) (length s) ≡ t → take (min (length s) (512 - from)) s ≡ take (512 - from) s
+    go true q = let e : min (length s) (512 - from) ≡ 512 - from = omega (arith, ltb-true (512 - from) (length s) q) in rw e
+    go false q =
+        let h : length s ≤ 512 - from = omega (arith, ltb-false (512 - from) (length s) q) in
+        let e : min (length s) (512 - from) ≡ length s = omega arith in
+        rw e (rw (take_all (length s) s (omega arith)) (sym (take_all (512 - from) s h)))
 
-pub append_first : (room : List ℕ) (from : ℕ) (s : List ℕ) → Appending room from s room from 0
+-- stored at once: the first bytes, as much of s as has room, and what stood behind
+pub append_put : (room : List ℕ) (from : ℕ) (s t : List ℕ) (at n : ℕ) → length room ≡ 512 → at ≡ min from 512 → n ≡ min (length s) (512 - at)
+    → t ≡ take n s → Appended room from s (put_mid at (at + n - at) room t) (at + n)
 unfolding appended
-append_first room from s = record { here = omega arith; some = omega arith; fits = omega arith; same = refl }
-
-module _ {room : List ℕ} {from : ℕ} {s after : List ℕ} {at i : ℕ} (p : Appending room from s after at i) where
-  pub append_goes : at < 512 → i < length s → Appending room from s (set after at (get_or s i 0)) (at + 1) (i + 1)
-  append_goes h g =
-      let e : 512 - at ≡ suc (512 - (at + 1)) = omega arith in
-      let z : sets after at (take (512 - at) (drop i s)) ≡ sets (set after at (get_or s i 0)) (at + 1) (take (512 - (at + 1)) (drop (i + 1) s)) =
-      rw (e, add-one at, add-one i, drop-cons s i 0) in
-      record { here = omega (arith, p.here); some = omega arith; fits = omega (arith, p.here); same = sym z ∙ p.same }
-
-  pub append_full : 512 ≤ at → i < length s → Appended room from s after 512
-  append_full h g =
-      let e : 512 - at ≡ 0 = omega arith in
-      let z : sets after at (take (512 - at) (drop i s)) ≡ after = rw e in
-      record { line = sym z ∙ p.same; end = omega (arith, p.here, p.some) }
-
-  pub append_done : {r : ℕ} → length s ≤ i → r ≡ min 512 at → Appended room from s after r
-  append_done g e =
-      let z : sets after at (take (512 - at) (drop i s)) ≡ after = rw (drop_of_length-le, take-nil) in
-      record { line = sym z ∙ p.same; end = omega (arith, p.here, p.some, e) }
+append_put room from s t at n l e f y =
+    let k : at + n - at ≡ n = omega arith in
+    record { line = rw (k, y) (ap (λ (z : List ℕ). take at room ++ (take n s ++ z)) (drop-drop n at room) ∙ go (ltb 512 from) refl); end = omega arith }
+  where
+    go : (t : Bool) → ltb 512 from ≡ t → take at room ++ (take n s ++ drop (at + n) room) ≡ sets room from (take (512 - from) s)
+    go true q =
+        let h : 512 < from = ltb-true 512 from q in
+        let z : 512 - from ≡ 0 = omega arith in
+        let a : at ≡ 512 = omega arith in
+        let m : n ≡ 0 = omega arith in
+        rw (z, a, m) (take-append-drop 512 room)
+    go false q =
+        let h : from ≤ 512 = ltb-false 512 from q in
+        let a : at ≡ from = omega arith in
+        let m : n ≡ min (length s) (512 - from) = rw a at f in
+        rw (a, m, has_room from s)
+        (let c : from + length (take (512 - from) s) ≤ length room = simp length-take (omega arith) in
+        let d : length (take (512 - from) s) ≡ min (length s) (512 - from) = simp length-take (omega arith) in
+        let e : sets room from (take (512 - from) s)
+        ≡ take from room ++ (take (512 - from) s ++ drop (from + length (take (512 - from) s)) room) =
+        sets-eq (take (512 - from) s) room from c ∙ append_assoc (take from room) (take (512 - from) s) (drop (from + length (take (512 - from) s)) room) in
+        rw d at (sym e))

@@ -1,7 +1,8 @@
 // The words of a line: what stands between bytes up to the space. And a line with more put after it.
 #![tactic(auto)]
 
-ghost use Rattle.std.specs.Prelude.{◌≡◌, ◌+◌, ◌≤◌, length, take, drop};
+ghost use Rattle.std.specs.Prelude.{◌≡◌, ◌≤◌, length, take, drop, position};
+ghost use Rattle.std.specs.Bool.{beq};
 ghost use Rattle.lines.specs.Words.{of_word, ends, word_of};
 ghost use Rattle.lines.specs.Appended.{Appended};
 
@@ -14,56 +15,48 @@ fn of_word(b: u8) -> bool
     b > b' '
 }
 
-// Where the bytes end, from `from` on, that are a word's, or that are not.
-fn run_end(line: &[u8], from: usize, words: bool) -> usize
-    requires { from ≤ length line.now }
-    ensures value { result ≡ from + ends words (drop from line.now) }
-    ensures lower_bound { (from ≤ result) × (result ≤ length line.now) }
+// Where the first byte stands that is a word's, or that is none.
+fn first_of(line: &[u8], words: bool) -> Option<usize>
+    ensures { result ≡ position (λ b. beq (of_word b) words) line.now }
 {
-    let mut at = from;
-    while at < line.len() {
-        if of_word(line[at]) != words {
-            return at;
-        }
-        at += 1;
-    }
-    at
+    line.iter().position(|b| of_word(*b) == words)
+}
+
+// How many bytes at the start are a word's, or are none.
+fn run(line: &[u8], words: bool) -> usize
+    ensures value { result ≡ ends words line.now }
+    ensures upper_bound { result ≤ length line.now }
+{
+    first_of(line, !words).unwrap_or(line.len())
+}
+
+// What stands behind them.
+fn behind(line: &[u8], words: bool) -> &[u8]
+    ensures { result.now ≡ drop (ends words line.now) line.now }
+{
+    &line[run(line, words)..]
 }
 
 // Word i of a line, counted from 0: empty where the line has fewer.
 pub fn word(line: &[u8], i: usize) -> &[u8]
     ensures { result.now ≡ word_of i line.now }
 {
-    let mut at = 0;
-    let mut k = 0;
-    while k < i {
-        at = run_end(line, at, false);
-        at = run_end(line, at, true);
-        k += 1;
+    let mut rest = line;
+    for _ in 0..i {
+        rest = behind(behind(rest, false), true);
     }
-    let a = run_end(line, at, false);
-    let e = run_end(line, a, true);
-    &line[a..e]
+    rest = behind(rest, false);
+    &rest[..run(rest, true)]
 }
 
 // Puts s after the first `from` bytes of a line, as far as there is room, and answers where it ends.
 pub fn append(room: &mut [u8; ROOM], from: usize, s: &[u8]) -> usize
     ensures { Appended room.old from s.now room.new result }
 {
-    let mut at = from;
-    let mut i = 0;
-    while i < s.len() {
-        if at >= ROOM {
-            return ROOM;
-        }
-        room[at] = s[i];
-        at += 1;
-        i += 1;
-    }
-    if at > ROOM {
-        return ROOM;
-    }
-    at
+    let at = from.min(ROOM);
+    let n = s.len().min(ROOM - at);
+    room[at..at + n].copy_from_slice(&s[..n]);
+    at + n
 }
 
 // The first n of some values, or all where there are fewer.

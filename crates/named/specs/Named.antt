@@ -1,15 +1,16 @@
 -- Named words, as `stream=2`: a word that holds a `=` (61) and no `/` (47) before it. Its name stands before the `=`, its value behind it. Rests on Words
 -- of crate lines.
 use Prim.Native.Nat.{ℕ, zero, suc, ◌+◌, ◌-◌, ◌<◌, ◌≤◌}
-use Rattle.std.specs.Prelude.{◌≡◌, refl, Bool, true, false, cond, eqb, take, drop, get_or}
-use Rattle.std.proofs.Common.{◌∙◌, add-one}
+use Rattle.std.specs.Prelude.{◌≡◌, refl, Bool, true, false, not, ◌||◌, cond, eqb, nat_eq, nat_lt, take, drop, get_or, Some, None}
+use Rattle.std.specs.List.{position, position_or_len}
+use Rattle.std.proofs.Common.{◌∙◌, ltb-false}
 use Rattle.std.proofs.Math.Path.{sym, ap}
 use Rattle.std.specs.Bool.{beq}
 use mathlib.Core.List.{List, [], ◌∷◌}
 use native.Mathlib.Omega.{arith}
-use borrow.Author.Tests.{eq-eqb, ne_eqb}
+use borrow.Author.Tests.{eq-eqb, ne_eqb, eqb-true}
 use Rattle.std.proofs.Math.ListN.{length, drop_of_length-le, length-drop, get_or-eq_default}
-use Rattle.std.proofs.Math.Seq.{drop-cons, take_all}
+use Rattle.std.proofs.Math.Seq.{take_all}
 use Rattle.lines.specs.Words.{word_of}
 
 -- where the first `=` or `/` stands; the word's length where there is none
@@ -40,59 +41,60 @@ unfoldable pub picked : Bool → ℕ → List (List ℕ) → List ℕ
 picked k i [] = []
 picked k i (w ∷ ws) = cond (eqb (length w) 0) [] (cond (beq (is_named w) k) (cond (eqb i 0) w (picked k (i - 1) ws)) (picked k i ws))
 
--- the loop that looks for the mark: it is at i
-pub record Marking (w : List ℕ) (i : ℕ) : Type 0 where
-  pub here : i ≤ length w
-  pub same : i + mark_of (drop i w) ≡ mark_of w
+-- the mark is where the first `=` or `/` is found
+mark_at : (w : List ℕ) → position_or_len (λ b. nat_eq b 61 || nat_eq b 47) w ≡ mark_of w
+unfolding mark_of
+mark_at [] = refl
+mark_at (b ∷ bs) = go (eqb b 61) (eqb b 47) (mark_at bs)
+  where
+    go : (p q : Bool) {n m : ℕ} → n ≡ m → cond (not (p || q)) (1 + n) 0 ≡ cond p 0 (cond q 0 (suc m))
+    go true q e = refl
+    go false true e = refl
+    go false false e = omega (arith, e)
 
-pub mark_first : (w : List ℕ) → Marking w 0
-mark_first w = record { here = omega arith; same = omega arith }
+module _ (w : List ℕ) where
+  pub mark_some : {e : ℕ} → Some e ≡ position (λ b. nat_eq b 61 || nat_eq b 47) w → e ≡ mark_of w
+  mark_some {e} f = go (nat_lt (position_or_len (λ b. nat_eq b 61 || nat_eq b 47) w) (length w)) f
+    where
+      go : (t : Bool) → Some e ≡ cond t (Some (position_or_len (λ b. nat_eq b 61 || nat_eq b 47) w)) None → e ≡ mark_of w
+      go true f = let z : e ≡ position_or_len (λ b. nat_eq b 61 || nat_eq b 47) w = cc in z ∙ mark_at w
+      go false f = let z : ◌≡◌ {A = ℕ} 0 1 = cc in absurd (omega arith)
 
-module _ {w : List ℕ} {i : ℕ} (m : Marking w i) where
-  pub mark_none : length w ≤ i → i ≡ mark_of w
-  unfolding mark_of
-  mark_none h = let e : mark_of (drop i w) ≡ 0 = rw drop_of_length-le in omega (arith, e, m.same)
-
-  module _ (h : i < length w) where
-    pub mark_equals : get_or w i 0 ≡ 61 → i ≡ mark_of w
-    unfolding mark_of
-    mark_equals q = let z : mark_of (drop i w) ≡ 0 = rw (drop-cons w i 0) (rw q) in omega (arith, z, m.same)
-
-    module _ (n : get_or w i 0 ≡ 61 → ⊥) where
-      pub mark_slash : get_or w i 0 ≡ 47 → i ≡ mark_of w
-      unfolding mark_of
-      mark_slash q = let z : mark_of (drop i w) ≡ 0 = rw (drop-cons w i 0) (rw q) in omega (arith, z, m.same)
-
-      pub mark_goes : (get_or w i 0 ≡ 47 → ⊥) → Marking w (i + 1)
-      unfolding mark_of
-      mark_goes o =
-          let z : mark_of (drop i w) ≡ suc (mark_of (drop (i + 1) w)) =
-          rw (add-one, drop-cons w i 0) (simp (ne_eqb (get_or w i 0) 61 n, ne_eqb (get_or w i 0) 47 o)) in
-          record { here = omega arith; same = omega (arith, z, m.same) }
+  mark_none : None ≡ position (λ b. nat_eq b 61 || nat_eq b 47) w → length w ≤ mark_of w
+  mark_none f = go (nat_lt (position_or_len (λ b. nat_eq b 61 || nat_eq b 47) w) (length w)) refl f
+    where
+      go : (t : Bool) → nat_lt (position_or_len (λ b. nat_eq b 61 || nat_eq b 47) w) (length w) ≡ t
+          → None ≡ cond t (Some (position_or_len (λ b. nat_eq b 61 || nat_eq b 47) w)) None → length w ≤ mark_of w
+      go true q f = let z : ◌≡◌ {A = ℕ} 0 1 = cc in absurd (omega arith)
+      go false q f = omega (arith, mark_at w, ltb-false (position_or_len (λ b. nat_eq b 61 || nat_eq b 47) w) (length w) q)
 
 -- what the mark tells
-module _ (w : List ℕ) {e : ℕ} (q : e ≡ mark_of w) where
+module _ (w : List ℕ) {e : ℕ} (f : Some e ≡ position (λ b. nat_eq b 61 || nat_eq b 47) w) where
   pub named_at : eqb (get_or w e 0) 61 ≡ is_named w
   unfolding is_named
-  named_at = rw q
-
-  pub named_none : length w ≤ e → false ≡ is_named w
-  unfolding is_named
-  named_none h = rw (← q) (rw (get_or-eq_default w 0 h))
+  named_at = rw (mark_some w f)
 
   pub name_at : take e w ≡ name_of w
   unfolding name_of
-  name_at = rw q
+  name_at = rw (mark_some w f)
 
   pub value_at : take (length w - (e + 1)) (drop (e + 1) w) ≡ value_of w
   unfolding value_of
-  value_at = take_all (length w - (e + 1)) (drop (e + 1) w) (simp length-drop (omega arith)) ∙ rw q
+  value_at = take_all (length w - (e + 1)) (drop (e + 1) w) (simp length-drop (omega arith)) ∙ rw (mark_some w f)
 
-  pub value_none : length w ≤ e → take (length w - e) (drop e w) ≡ value_of w
+-- and that there is none
+module _ (w : List ℕ) (f : None ≡ position (λ b. nat_eq b 61 || nat_eq b 47) w) where
+  pub named_none : false ≡ is_named w
+  unfolding is_named
+  named_none = let h = mark_none w f in rw (get_or-eq_default w 0 h)
+
+  pub name_none : w ≡ name_of w
+  unfolding name_of
+  name_none = sym (take_all (mark_of w) w (mark_none w f))
+
+  pub value_none : [] ≡ value_of w
   unfolding value_of
-  value_none h =
-      let z : length w - e ≡ 0 = omega arith in
-      rw z (sym (drop_of_length-le w (let y : length w ≤ mark_of w + 1 = omega (arith, q) in y)))
+  value_none = let h : length w ≤ mark_of w + 1 = omega (arith, mark_none w f) in sym (drop_of_length-le w h)
 
 empty : (w : List ℕ) → length w ≡ 0 → w ≡ []
 empty [] e = refl
@@ -126,27 +128,27 @@ module _ {k : Bool} {s : List ℕ} {i left j : ℕ} (p : Picking k s i left j) w
         let z : words_from s j (length s - j) ≡ w ∷ rest = rw e (ap (λ (l : List ℕ). l ∷ rest) (sym q)) in
         ap (picked k left) (sym z) ∙ p.same
 
-    pub pick_empty : length w ≡ 0 → w ≡ picked k i (words_of s)
+    pub pick_empty : eqb (length w) 0 ≡ true → w ≡ picked k i (words_of s)
     unfolding picked
     pick_empty e =
-        let z : picked k left (w ∷ rest) ≡ [] = simp (eq-eqb (length w) 0 e) in
-        empty w e ∙ sym z ∙ goes
+        let z : picked k left (w ∷ rest) ≡ [] = simp e in
+        empty w (eqb-true (length w) 0 e) ∙ sym z ∙ goes
 
-    module _ (n : length w ≡ 0 → ⊥) {b : Bool} (r : b ≡ is_named w) where
+    module _ (n : eqb (length w) 0 ≡ false) {b : Bool} (r : b ≡ is_named w) where
       pub pick_found : beq b k ≡ true → left ≡ 0 → w ≡ picked k i (words_of s)
       unfolding picked
       pick_found e z =
-          let y : picked k left (w ∷ rest) ≡ w = simp (ne_eqb (length w) 0 n) (rw (← r) (simp (e, eq-eqb left 0 z))) in
+          let y : picked k left (w ∷ rest) ≡ w = simp n (rw (← r) (simp (e, eq-eqb left 0 z))) in
           sym y ∙ goes
 
       pub pick_passed : beq b k ≡ true → (left ≡ 0 → ⊥) → Picking k s i (left - 1) (j + 1)
       unfolding picked rest
       pick_passed e z =
-          let y : picked k left (w ∷ rest) ≡ picked k (left - 1) rest = simp (ne_eqb (length w) 0 n) (rw (← r) (simp (e, ne_eqb left 0 z))) in
+          let y : picked k left (w ∷ rest) ≡ picked k (left - 1) rest = simp n (rw (← r) (simp (e, ne_eqb left 0 z))) in
           record { here = omega arith; same = sym y ∙ goes }
 
       pub pick_other : beq b k ≡ false → Picking k s i left (j + 1)
       unfolding picked rest
       pick_other e =
-          let y : picked k left (w ∷ rest) ≡ picked k left rest = simp (ne_eqb (length w) 0 n) (rw (← r) (simp e)) in
+          let y : picked k left (w ∷ rest) ≡ picked k left rest = simp n (rw (← r) (simp e)) in
           record { here = omega arith; same = sym y ∙ goes }

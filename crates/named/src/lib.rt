@@ -1,57 +1,49 @@
 // Words that have a name and a value, as `stream=2`: whether a word is one, its parts, and the words of a line that are, or that are not.
 #![tactic(auto)]
 
-ghost use Rattle.std.specs.Prelude.{◌≡◌, ◌≤◌, length};
-ghost use Rattle.named.specs.Named.{mark_of, is_named, name_of, value_of, words_of, picked};
+ghost use Rattle.std.specs.Prelude.{◌≡◌, ◌==◌, ◌||◌, position};
+ghost use Rattle.named.specs.Named.{is_named, name_of, value_of, words_of, picked};
 
-use lines::{first, word};
+use lines::word;
 
-// Where the first `=` or `/` of a word stands, or else its end.
-fn mark(w: &[u8]) -> usize
-    ensures value { result ≡ mark_of w.now }
-    ensures upper_bound { result ≤ length w.now }
+// Where the first `=` or `/` of a word stands.
+fn mark(w: &[u8]) -> Option<usize>
+    ensures { result ≡ position (λ b. b == 61 || b == 47) w.now }
 {
-    let mut i = 0;
-    while i < w.len() {
-        if w[i] == b'=' {
-            return i;
-        }
-        if w[i] == b'/' {
-            return i;
-        }
-        i += 1;
-    }
-    i
+    w.iter().position(|b| *b == b'=' || *b == b'/')
 }
 
 // Whether a word is a named one, as `stream=2`: it holds a `=`, and no `/` before it.
+#[tactic(auto, using(crate::specs::Named::named_at, crate::specs::Named::named_none))]
 pub fn is_named(w: &[u8]) -> bool
     ensures { result ≡ is_named w.now }
 {
-    let e = mark(w);
-    if e < w.len() {
-        return w[e] == b'=';
+    match mark(w) {
+        Some(e) => w[e] == b'=',
+        None => false,
     }
-    false
 }
 
 // The name of a named word.
+#[tactic(auto, using(crate::specs::Named::name_at, crate::specs::Named::name_none))]
 pub fn name(w: &[u8]) -> &[u8]
     ensures { result.now ≡ name_of w.now }
 {
-    first(w, mark(w))
+    match mark(w) {
+        Some(e) => &w[..e],
+        None => w,
+    }
 }
 
 // The value of a named word.
+#[tactic(auto, using(crate::specs::Named::value_at, crate::specs::Named::value_none))]
 pub fn value(w: &[u8]) -> &[u8]
     ensures { result.now ≡ value_of w.now }
 {
-    let e = mark(w);
-    if e < w.len() {
-        let a = e + 1;
-        return &w[a..];
+    match mark(w) {
+        Some(e) => &w[e + 1..],
+        None => &[],
     }
-    &w[e..]
 }
 
 // Word i, counted from 0, of those that are named, or of those that are not: empty where there are fewer.
@@ -59,10 +51,9 @@ pub fn among(line: &[u8], named: bool, i: usize) -> &[u8]
     ensures { result.now ≡ picked named i (words_of line.now) }
 {
     let mut left = i;
-    let mut j = 0;
-    while j < line.len() {
+    for j in 0..line.len() {
         let w = word(line, j);
-        if w.len() == 0 {
+        if w.is_empty() {
             return w;
         }
         if is_named(w) == named {
@@ -71,7 +62,6 @@ pub fn among(line: &[u8], named: bool, i: usize) -> &[u8]
             }
             left -= 1;
         }
-        j += 1;
     }
-    &line[..0]
+    &[]
 }

@@ -1,7 +1,7 @@
 -- Where a walk stands and how it steps: the address at t + 1 is that at t and a difference more, which grows by 2·f2, both modulo K. Then the
 -- walk from a cell on, and the search for the position of an address, as Stepped, Resting and Seek of laws have them.
 use Rattle.std.specs.Prelude.{List, ◌≡◌, refl, ℕ, ◌+◌, ◌*◌, ◌%◌, ◌≤◌, ◌<◌}
-use Rattle.std.proofs.Common.{sym, ap, ap₂, ◌∙◌, mod-lt, mul-le-mul, arith}
+use Rattle.std.proofs.Common.{sym, ap, ap₂, ◌∙◌, mod-lt, arith}
 use Rattle.std.proofs.Math.Nat.{add-mod}
 use Rattle.laws.specs.Resting.{Family, StepOf}
 use Rattle.laws.specs.Seek.{Seeking}
@@ -65,23 +65,6 @@ spot_next_in {k} {twice} {at} p v d =
       delta_in = rw d (mod-lt (at.delta + twice) some);
       twice_in = p.twice_in;
     }
-
--- the numbers of a set-up fit
-module _ {k f1 f2 t : ℕ} (b : Block k f1 f2 t) where
-  below : {x y : ℕ} → x ≤ k → y ≤ k → x * y ≤ 4294967296
-  below h l = let s = b.whole.small in mul-le-mul {n₂ = 65536} {m₂ = 65536} (omega arith) (omega arith)
-
-  pub linear_fits : f1 * t ≤ 4294967296
-  linear_fits = below (omega (arith, b.whole.first_in)) b.cell_in
-
-  pub twice_fits : f2 * t ≤ 4294967296
-  twice_fits = below (omega (arith, b.whole.second_in)) b.cell_in
-
-  pub square_fits : t * t ≤ 4294967296
-  square_fits = below b.cell_in b.cell_in
-
-  pub quadratic_fits : f2 * (t * t) ≤ 281474976710656
-  quadratic_fits = mul-le-mul {n₂ = 65536} {m₂ = 4294967296} (omega (arith, b.whole.second_in, b.whole.small)) square_fits
 
 -- what the set-up of a loop makes
 pub record Ready (k f1 f2 twice : ℕ) : Type 0 where

@@ -68,8 +68,8 @@ impl Block {
         }
     }
 
-    // Adds a reception. Answers whether it was added; a refusal is said.
-    fn add(&mut self, system: System, reception: &Reception) -> bool {
+    // The block with a reception added. A refusal is said.
+    fn with(mut self, system: System, reception: &Reception) -> Option<Self> {
         let n = figures::size_of(self.set);
         match combine::add(
             self.set,
@@ -78,30 +78,29 @@ impl Block {
             &mut self.sums[..n],
             &mut self.counts[..n],
         ) {
-            Ok(()) => true,
+            Ok(()) => Some(self),
             Err(x) => {
                 refused(system, x);
-                false
+                None
             }
         }
     }
 
-    // Adds the file that argument i names.
-    fn add_file(&mut self, system: System, i: usize) -> bool {
-        match Reception::read(system, self.set, i) {
-            Some(reception) => self.add(system, &reception),
-            None => false,
-        }
+    // With the file that argument i names.
+    fn with_file(self, system: System, i: usize) -> Option<Self> {
+        let reception = Reception::read(system, self.set, i)?;
+        self.with(system, &reception)
     }
 
-    // Adds file after file. Answers whether all were added.
-    fn add_files(&mut self, system: System, first: usize) -> bool {
+    // With all files, from argument `first` on.
+    fn with_files(self, system: System, first: usize) -> Option<Self> {
+        let mut block = self;
         for i in first..system.arg_count() {
-            if !is_beside(system, i) && !self.add_file(system, i) {
-                return false;
+            if !is_beside(system, i) {
+                block = block.with_file(system, i)?;
             }
         }
-        true
+        Some(block)
     }
 
     fn read(&self, k: u32) -> Reading {
@@ -126,13 +125,13 @@ pub fn in_form(system: System) -> bool {
 
 // `combine`, of the files that the arguments name. A blank block is read first, which tells whether the calls refuse the set, before a file is opened.
 pub fn from_files(system: System, set: Set) {
-    let mut block = Block::of(set);
+    let block = Block::of(set);
     if let Reading::Refused(x) = block.read(0) {
         refused(system, x);
         return;
     }
     let first = first_file(system).unwrap_or(system.arg_count());
-    if block.add_files(system, first) {
-        block.show(system);
+    if let Some(whole) = block.with_files(system, first) {
+        whole.show(system);
     }
 }

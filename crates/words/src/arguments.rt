@@ -70,10 +70,8 @@ pub fn join(system: System, room: &mut [u8; ROOM], most: usize) -> usize
 {
     let n = system.arg_count();
     let mut line = Ends { at: 0, plain: 0 };
-    let mut i = 1;
-    while i < n {
+    for i in 1..n {
         line = with_argument(system, room, line, i, most);
-        i += 1;
     }
     line.at
 }

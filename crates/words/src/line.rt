@@ -5,6 +5,7 @@ use lines::ROOM;
 use system::System;
 
 // A line of standard input: so many bytes at the start of the room; or one that is too long, and was passed over; or there is none.
+// (Three answers, with each of which a caller does another thing: an Option in a Result would be no plainer.)
 #[derive(Clone, Copy)]
 pub enum Line {
     Of(usize),
@@ -12,35 +13,26 @@ pub enum Line {
     Nothing,
 }
 
-fn wide(x: u8) -> u16 {
-    x as u16
-}
-
-// Reads a byte of standard input, or answers 256 where there is none. A read that fails is told.
-fn next_byte(system: System) -> u16 {
+// The next byte of standard input, if there is one. A read that fails is told.
+fn next_byte(system: System) -> Option<u8> {
     let mut one = [0u8; 1];
     match system.read(&mut one) {
+        Ok(0) => None,
+        Ok(_) => Some(one[0]),
         Err(e) => {
             system.fail(b"interleaver: reading", e);
-            256
+            None
         }
-        Ok(0) => 256,
-        Ok(_) => wide(one[0]),
     }
 }
 
 // Passes over the rest of a line.
 fn skip_line(system: System) {
-    let mut turns = u64::MAX;
-    while turns > 0 {
-        let b = next_byte(system);
-        if b == 10 {
-            return;
+    for _ in 0..u64::MAX {
+        match next_byte(system) {
+            Some(b'\n') | None => return,
+            Some(_) => {}
         }
-        if b > 255 {
-            return;
-        }
-        turns -= 1;
     }
 }
 
@@ -48,20 +40,13 @@ fn skip_line(system: System) {
 pub fn read(system: System, room: &mut [u8; ROOM]) -> Line
     ensures { Read room.old room.new result }
 {
-    let mut at = 0;
-    while at < ROOM {
-        let b = next_byte(system);
-        if b == 10 {
-            return Line::Of(at);
+    for at in 0..ROOM {
+        match next_byte(system) {
+            Some(b'\n') => return Line::Of(at),
+            Some(b) => room[at] = b,
+            None if at == 0 => return Line::Nothing,
+            None => return Line::Of(at),
         }
-        if b > 255 {
-            if at == 0 {
-                return Line::Nothing;
-            }
-            return Line::Of(at);
-        }
-        room[at] = b as u8;
-        at += 1;
     }
     skip_line(system);
     Line::Long

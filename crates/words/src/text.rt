@@ -2,7 +2,6 @@
 ghost use Rattle.std.specs.Prelude.{◌≡◌, ◌≤◌};
 ghost use Rattle.words.specs.Gathered.{Put, PutNumber};
 
-use lines::first;
 use std::io::{Error, ErrorKind, Result};
 use system::{STDERR_FILENO, STDOUT_FILENO, System};
 
@@ -36,29 +35,46 @@ impl Text {
     pub fn put(&mut self, s: &[u8])
         ensures { Puts self.old s.now self.new }
     {
-        for b in s {
-            if self.at == ROOM {
-                write(self.system, STDOUT_FILENO, &self.room);
-                self.at = 0;
-            }
-            self.room[self.at] = *b;
-            self.at += 1;
-        }
+        self.at = put(self.system, &mut self.room, self.at, s);
     }
 
     // The same for a number in decimal.
     pub fn put_number(&mut self, n: u64)
         ensures { PutsNumber self.old n self.new }
     {
-        let mut digits = [0u8; 20];
-        let k = io::decimal(n, &mut digits);
-        self.put(&digits[..k]);
+        self.at = put_number(self.system, &mut self.room, self.at, n);
     }
 
     // Writes what waits.
     pub fn flush(self) {
         write(self.system, STDOUT_FILENO, &self.room[..self.at]);
     }
+}
+
+// Puts s after the `from` bytes that wait at the start of a room, and answers how many wait then. A full room is written first. (For whoever has a room of
+// his own; any `from` may be given, where a Text has at most what its room holds.)
+pub fn put(system: System, room: &mut [u8; ROOM], from: usize, s: &[u8]) -> usize
+    ensures { Put room.old from s.now room.new result }
+{
+    let mut at = from.min(ROOM);
+    for b in s {
+        if at == ROOM {
+            write(system, STDOUT_FILENO, room);
+            at = 0;
+        }
+        room[at] = *b;
+        at += 1;
+    }
+    at
+}
+
+// The same for a number in decimal.
+pub fn put_number(system: System, room: &mut [u8; ROOM], from: usize, n: u64) -> usize
+    ensures { PutNumber room.old from n room.new result }
+{
+    let mut digits = [0u8; 20];
+    let k = io::decimal(n, &mut digits);
+    put(system, room, from, &digits[..k])
 }
 
 // Std writes to no other descriptor: a write to one fails.
@@ -79,41 +95,6 @@ pub fn write(system: System, fd: i32, s: &[u8]) -> bool {
             false
         }
     }
-}
-
-// Puts s after the `from` bytes that wait at the start of the room, and answers how many wait then. A full room is written first.
-pub fn put(system: System, room: &mut [u8; ROOM], from: usize, s: &[u8]) -> usize
-    ensures { Put room.old from s.now room.new result }
-{
-    let mut at = from;
-    let mut i = 0;
-    if at > ROOM {
-        at = ROOM;
-    }
-    while i < s.len() {
-        if at >= ROOM {
-            write(system, STDOUT_FILENO, room);
-            at = 0;
-        }
-        room[at] = s[i];
-        at += 1;
-        i += 1;
-    }
-    at
-}
-
-// The same for a number in decimal.
-pub fn put_number(system: System, room: &mut [u8; ROOM], from: usize, n: u64) -> usize
-    ensures { PutNumber room.old from n room.new result }
-{
-    let mut digits = [0u8; 20];
-    let k = io::decimal(n, &mut digits);
-    put(system, room, from, &digits[..k])
-}
-
-// Writes what waits.
-pub fn flush(system: System, room: &[u8; ROOM], at: usize) {
-    write(system, STDOUT_FILENO, first(room, at));
 }
 
 // Writes words and a number.

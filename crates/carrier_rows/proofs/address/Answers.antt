@@ -1,14 +1,7 @@
 -- `carrier_rows::address` is L at one cell: the walk's set-up there.
 use mathlib.Core.Path.{◌∙◌}
-use Rattle.laws.specs.Sized.{row_pos}
 use Rattle.carrier_rows.specs.Along.{set_up, spot_address, spot_small}
 use Rattle.carrier_rows.proofs.address.Goals as goal
-
-pub nonzero_div-row : goal.nonzero_div-row
-nonzero_div-row c = row_pos c.requires.block.size
-
-pub nonzero_rem-col : goal.nonzero_rem-col
-nonzero_rem-col c = row_pos c.requires.block.size
 
 pub new-requires : goal.new-requires
 new-requires c = set_up c.requires.block

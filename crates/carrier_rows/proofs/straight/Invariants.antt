@@ -4,4 +4,4 @@ use Rattle.carrier_rows.specs.Straight.{unturned}
 use Rattle.carrier_rows.proofs.straight.Given as goal
 
 abbrev pub invariant-loop-i : goal.invariant-loop-i
-invariant-loop-i l = Along l.b.d l.b.n 1 l.row l.col l.from l.stop l.initial.out l.out (unturned l.a) l.i
+invariant-loop-i l = Along l.fn.b.d l.fn.b.n 1 l.row l.col l.from l.stop l.initial.out l.out (unturned l.a) l.i

@@ -1,12 +1,9 @@
 -- `carrier_rows::walk` is the walk for L from any cell: 9 by its test, nothing with no room, and else what `write` wrote.
 use mathlib.Core.Path.{refl}
 use native.Mathlib.Omega.{arith}
-use Rattle.laws.specs.Leaves.{leaf_past, ran_leaf}
+use Rattle.laws.specs.Leaves.{ran_leaf}
 use Rattle.carrier.proofs.Once.{carrier_once}
 use Rattle.carrier_rows.proofs.walk.Goals as goal
-
-pub returns-then-b-cell : goal.returns-then-b-cell
-returns-then-b-cell c = leaf_past c.if-b-cell.true
 
 pub returns-then-out-eq0 : goal.returns-then-out-eq0
 returns-then-out-eq0 c =

@@ -1,13 +1,10 @@
 -- `carrier_turned::walk_l` is the walk for L from any cell: 9 by its test, and else what `write_l` wrote.
 use native.Mathlib.Omega.{arith}
 use Rattle.laws.specs.Lanes.{ran_same}
-use Rattle.laws.specs.Leaves.{leaf_past, ran_leaf}
+use Rattle.laws.specs.Leaves.{ran_leaf}
 use Rattle.carrier.proofs.Turned.{spatial_once}
 use Rattle.carrier_turned.specs.Turned.{turn_in, within, l_by}
 use Rattle.carrier_turned.proofs.walk_l.Goals as goal
-
-pub returns-then-b-cell : goal.returns-then-b-cell
-returns-then-b-cell c = leaf_past c.if-b-cell.true
 
 pub write_l-count-requires : goal.write_l-count-requires
 write_l-count-requires c =

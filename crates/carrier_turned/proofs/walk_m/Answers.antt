@@ -1,13 +1,10 @@
 -- `carrier_turned::walk_m` is the walk for M from any cell: 9 by its test, and else what `write_m` wrote.
 use native.Mathlib.Omega.{arith}
 use Rattle.laws.specs.Lanes.{ran_same}
-use Rattle.laws.specs.Leaves.{leaf_past, ran_leaf}
+use Rattle.laws.specs.Leaves.{ran_leaf}
 use Rattle.carrier.proofs.Turned.{spatial_once}
 use Rattle.carrier_turned.specs.Turned.{turn_in, within, m_by}
 use Rattle.carrier_turned.proofs.walk_m.Goals as goal
-
-pub returns-then-b-cell : goal.returns-then-b-cell
-returns-then-b-cell c = leaf_past c.if-b-cell.true
 
 pub write_m-count-requires : goal.write_m-count-requires
 write_m-count-requires c =

@@ -1,7 +1,5 @@
 -- `carrier_turned::write_l` writes L from any cell on: the piece before the seam, the one from it on, or both.
-use mathlib.Core.Path.{sym}
 use native.Mathlib.Omega.{arith}
-use lib.Seq.{length-take-le}
 use Rattle.carrier_turned.specs.Seam.{one_piece, two_pieces, past_seam}
 use Rattle.carrier_turned.proofs.write_l.Goals as goal
 
@@ -12,9 +10,6 @@ returns-then-first-count c =
 pub returns-else-first-count : goal.returns-else-first-count
 returns-else-first-count c =
     one_piece c.requires c.least-count.ensures (omega (arith, c.if-cell-seam.true)) c.write-first.ensures (omega (arith, c.if-first-count.false))
-
-pub slice_bounds-write-end-3 : goal.slice_bounds-write-end-3
-slice_bounds-write-end-3 c = sym (length-take-le _ _ (omega (arith, c.least-count.ensures)))
 
 pub returns : goal.returns
 returns c =

@@ -1,27 +1,28 @@
 -- `combine::add` meets its contract: the refusal of the judgement, with all as it was, or what adding the judged block leaves.
-use mathlib.Core.Bool.{false}
-use mathlib.Core.Path.{◌≡◌, sym, ap, ◌∙◌}
+use Rattle.std.proofs.Common.{rules, ◌≡◌, sym, ◌∙◌}
+use Rattle.laws.specs.Outcome.{refused, say}
 use Rattle.positions.specs.Heard.{reception, kept}
-use Rattle.tables.specs.Answer.{moved_of, say_moved}
 use Rattle.tables.proofs.Passed.{judged_so}
-use Rattle.sets.specs.Set.{family_of, is_coupled}
-use Rattle.combine.specs.Passed.{input_of, output_of, couples_refused, said_so, block_refused}
+use Rattle.combine.specs.Passed.{is_plain, couples_refused, said_so, block_refused}
 use Rattle.combine.proofs.add.Goals as goal
 
-pub returns-then-is_coupled : goal.returns-then-is_coupled
-returns-then-is_coupled c = let a = couples_refused _ _ _ (sym c.is_coupled.ensures ∙ c.if-is_coupled.true) c.refusal_of.ensures in record { answer = a.answer; sums = a.sums; counts = a.counts }
+pub returns-in_err-plain : goal.returns-in_err-plain
+returns-in_err-plain c =
+    let a = c.args in
+    let kept_so = couples_refused a.set (reception a.received.now a.present.now) (kept a.sums.now a.counts.now) c.in_err-plain.ensures in
+    let said : say c.from_residual.result ≡ refused c.in_err-plain.field-0.0 = search rules in
+    record { answer = said ∙ kept_so.answer; sums = kept_so.sums; counts = kept_so.counts }
+
+pub returns-in_err-judge : goal.returns-in_err-judge
+returns-in_err-judge c =
+    let a = c.args in
+    let no_couples = is_plain _ c.in_ok-plain.ensures in
+    let kept_so = block_refused a.set (reception a.received.now a.present.now) (kept a.sums.now a.counts.now) no_couples
+    (said_so _ _ _ no_couples c.off-input.ensures c.off-output.ensures c.in_err-judge.ensures) in
+    let said : say c.from_residual-in_err-judge.result ≡ refused c.in_err-judge.field-0.0 = search rules in
+    record { answer = said ∙ kept_so.answer; sums = kept_so.sums; counts = kept_so.counts }
 
 pub add_judged-requires : goal.add_judged-requires
 add_judged-requires c =
-    let plain' : is_coupled (family_of c.args.set) ≡ false = sym c.is_coupled.ensures ∙ c.if-is_coupled.false in
-    let says : say_moved c.judge.result ≡ moved_of c.args.set c.args.set.n (input_of c.args.set (reception c.args.received.now c.args.present.now) (kept c.args.sums.now c.args.counts.now)) (output_of c.args.set (reception c.args.received.now c.args.present.now) (kept c.args.sums.now c.args.counts.now)) = said_so c.args.set (reception c.args.received.now c.args.present.now) (kept c.args.sums.now c.args.counts.now) plain' c.off-input.ensures c.off-output.ensures c.judge.ensures in
-    record { plain = plain'; judged_so = judged_so _ _ _ _ (sym says ∙ ap say_moved c.in-Done.is) }
-
-pub returns-in-Refused : goal.returns-in-Refused
-returns-in-Refused c =
-    let plain : is_coupled (family_of c.args.set) ≡ false = sym c.is_coupled.ensures ∙ c.if-is_coupled.false in
-    let says : say_moved c.judge.result ≡ moved_of c.args.set c.args.set.n (input_of c.args.set (reception c.args.received.now c.args.present.now) (kept c.args.sums.now c.args.counts.now)) (output_of c.args.set (reception c.args.received.now c.args.present.now) (kept c.args.sums.now c.args.counts.now)) = said_so c.args.set (reception c.args.received.now c.args.present.now) (kept c.args.sums.now c.args.counts.now) plain c.off-input.ensures c.off-output.ensures c.judge.ensures in
-    let e = sym (ap say_moved c.in-Refused.is) ∙ says in let a = block_refused _ _ _ plain e in record { answer = a.answer; sums = a.sums; counts = a.counts }
-
-pub returns-in-Done : goal.returns-in-Done
-returns-in-Done c = let a = c.add_judged.ensures in record { answer = a.answer; sums = a.sums; counts = a.counts }
+    let no_couples = is_plain _ c.in_ok-plain.ensures in
+    record { plain = no_couples; judged_so = judged_so _ _ _ _ (sym (said_so _ _ _ no_couples c.off-input.ensures c.off-output.ensures c.in_ok-judge.ensures)) }

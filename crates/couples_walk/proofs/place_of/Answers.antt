@@ -1,20 +1,10 @@
 -- `couples_walk::place_of` is M: the walk stops at the couple.
 use mathlib.Core.Path.{sym, ◌∙◌}
 use native.Mathlib.Nat.{le_antisymm}
-use native.Mathlib.Omega.{arith}
-use Rattle.laws.specs.Seek.{seek_first, seek_here, seek_next, seek_end}
+use Rattle.laws.specs.Seek.{seek_here, seek_next, seek_end}
 use Rattle.couples.specs.Formula.{couple_m}
 use Rattle.couples_walk.specs.Spot.{ready_in}
 use Rattle.couples_walk.proofs.place_of.Goals as goal
-
-pub new-at-requires : goal.new-at-requires
-new-at-requires c = record { numbered = c.requires; cell_in = omega arith }
-
-pub loop-j-init : goal.loop-j-init
-loop-j-init c = seek_first c.requires c.new-at.ensures
-
-pub overflow_cast-n : goal.overflow_cast-n
-overflow_cast-n c = omega (arith, c.requires.small)
 
 pub returns-then-at-a : goal.returns-then-at-a
 unfolding couple_m

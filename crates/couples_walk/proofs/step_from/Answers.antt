@@ -1,11 +1,6 @@
 -- `couples_walk::step_from` is one of the four steps.
-use native.Mathlib.Nat.{mod-lt}
-use native.Mathlib.Omega.{arith}
 use Rattle.couples_walk.specs.Spot.{onward_is}
 use Rattle.couples_walk.proofs.step_from.Goals as goal
-
-pub overflow_sub-result : goal.overflow_sub-result
-overflow_sub-result c = omega (arith, mod-lt c.offset_of-old.result c.requires.0.size)
 
 pub returns : goal.returns
 returns c =

@@ -1,10 +1,7 @@
 -- `couples_walk::walk` is the walk for P from any cell: 9 by its test, and else what `write` wrote.
-use Rattle.laws.specs.Leaves.{leaf_past, ran_leaf}
+use Rattle.laws.specs.Leaves.{ran_leaf}
 use Rattle.couples.specs.Law.{couple_below}
 use Rattle.couples_walk.proofs.walk.Goals as goal
-
-pub returns-then-cell-couples : goal.returns-then-cell-couples
-returns-then-cell-couples c = leaf_past c.if-cell-couples.true
 
 pub returns : goal.returns
 returns c =

@@ -9,9 +9,6 @@ use Rattle.gateway_form.proofs.entries_fit.Goals as goal
 pub loop-init : goal.loop-init
 loop-init c = testing_first _ _ c.requires.0
 
-pub entry_at-entry-requires : goal.entry_at-entry-requires
-entry_at-entry-requires c = omega (arith, c.loop.invariant.place, c.requires.1, c.loop-test.true)
-
 pub entry_fits-requires : goal.entry_fits-requires
 entry_fits-requires c = (ap length c.entry_at-entry.ensures ∙ length_part c.loop.at 224 c.args.store.now (omega (arith, c.loop.invariant.place, c.requires.1, c.loop-test.true)), c.limits_of-dvb.ensures, c.limits_of-atsc.ensures)
 
@@ -26,12 +23,6 @@ returns-then-offset_of-share c = share_apart c.loop.invariant c.loop-test.true c
 
 pub length_of-share-requires : goal.length_of-share-requires
 length_of-share-requires c = ap length c.entry_at-entry.ensures ∙ length_part c.loop.at 224 c.args.store.now (omega (arith, c.loop.invariant.place, c.requires.1, c.loop-test.true))
-
-pub overflow_add-share-in-loop : goal.overflow_add-share-in-loop
-overflow_add-share-in-loop c = omega (arith, c.loop.invariant.small, c.loop-test.true, c.requires.0, c.length_of-share.ensures.0, fits_low _ (sym c.entry_fits.ensures ∙ c.if-not-entry_fits.false))
-
-pub overflow_add-at : goal.overflow_add-at
-overflow_add-at c = omega (arith, c.loop.invariant.place, c.loop-test.true, c.requires.0)
 
 pub loop-preserved : goal.loop-preserved
 loop-preserved c = testing_more c.loop.invariant c.loop-test.true c.entry_at-entry.ensures (sym c.entry_fits.ensures ∙ c.if-not-entry_fits.false) (sym c.offset_of.ensures.0 ∙ c.if-offset_of-share.false) c.length_of-share.ensures.0

@@ -7,9 +7,6 @@ use mathlib.Core.Path.{◌≡◌, ap, ◌∙◌}
 use Prim.Native.Nat.{◌+◌, ◌*◌}
 use Rattle.gateway_form.proofs.record_of.Goals as goal
 
-pub loop-place-init : goal.loop-place-init
-loop-place-init c = (omega arith, filled_none _ _ _)
-
 pub loop-place-preserved : goal.loop-place-preserved
 loop-place-preserved c =
     let x = c.loop-place.place-index in

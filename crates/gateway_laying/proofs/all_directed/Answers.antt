@@ -3,9 +3,6 @@ use mathlib.Core.Path.{sym, ◌∙◌}
 use Rattle.gateway_laying.specs.Laying.{passing_first, passing_all, passing_more, passing_not}
 use Rattle.gateway_laying.proofs.all_directed.Goals as goal
 
-pub loop-direction-init : goal.loop-direction-init
-loop-direction-init c = passing_first _ _
-
 pub returns-then-not-is_direction : goal.returns-then-not-is_direction
 returns-then-not-is_direction c = sym (passing_not c.loop-direction.invariant c.loop-direction-test.true (sym c.is_direction.ensures ∙ c.if-not-is_direction.true))
 

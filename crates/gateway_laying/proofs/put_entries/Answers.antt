@@ -5,17 +5,8 @@ use Rattle.kinds.specs.Kinds.{sound}
 use Rattle.gateway_laying.specs.Laying.{entering_first, entering_end, entering_more, header_inside, start_low}
 use Rattle.gateway_laying.proofs.put_entries.Goals as goal
 
-pub overflow_mul-share : goal.overflow_mul-share
-overflow_mul-share c = omega (arith, c.requires.few)
-
-pub overflow_add-share : goal.overflow_add-share
-overflow_add-share c = omega (arith, c.requires.few)
-
 pub loop-i-init : goal.loop-i-init
 loop-i-init c = entering_first _ _ _
-
-pub bounds-directions-i : goal.bounds-directions-i
-bounds-directions-i c = omega (arith, c.loop-i-test.true, c.requires.equal)
 
 pub overflow_cast-share : goal.overflow_cast-share
 overflow_cast-share c = omega (arith, start_low c.args.kinds.now c.loop-i.i, c.loop-i.invariant.start, c.loop-i-test.true, c.requires.few)
@@ -26,14 +17,8 @@ put_entry-requires c = let g = c.loop-i.invariant in omega (arith, g.place, g.st
 pub overflow_add-share-in-loop-i : goal.overflow_add-share-in-loop-i
 overflow_add-share-in-loop-i c = omega (arith, c.of-share.ensures.store, (sound (get_or c.args.kinds.now c.loop-i.i 0)).low, start_low c.args.kinds.now c.loop-i.i, c.loop-i.invariant.start, c.loop-i-test.true, c.requires.few)
 
-pub overflow_add-at : goal.overflow_add-at
-overflow_add-at c = omega (arith, c.loop-i.invariant.place, c.loop-i-test.true, c.requires.few)
-
 pub loop-i-preserved : goal.loop-i-preserved
 loop-i-preserved c = entering_more c.loop-i.invariant c.loop-i-test.true c.new.ensures c.put_entry.ensures c.of-share.ensures.store
-
-pub shape_of-store : goal.shape_of-store
-shape_of-store c = c.loop-i.invariant.stored.size
 
 pub returns : goal.returns
 returns c = entering_end c.loop-i.invariant c.loop-i-test.false

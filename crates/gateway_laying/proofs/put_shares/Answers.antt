@@ -8,12 +8,6 @@ use Rattle.kinds.specs.Kinds.{sound}
 use Rattle.gateway_laying.specs.Laying.{sharing_first, sharing_end, sharing_more, start_low, start_next, start_inside, kind_at, started_share}
 use Rattle.gateway_laying.proofs.put_shares.Goals as goal
 
-pub overflow_mul-at : goal.overflow_mul-at
-overflow_mul-at c = omega (arith, c.requires.few)
-
-pub overflow_add-at : goal.overflow_add-at
-overflow_add-at c = omega (arith, c.requires.few)
-
 pub loop-i-init : goal.loop-i-init
 loop-i-init c = sharing_first _ _ _
 
@@ -22,9 +16,6 @@ overflow_add-end c = omega (arith, c.of.ensures.store, (sound (get_or c.args.kin
 
 pub slice_bounds-start-end : goal.slice_bounds-start-end
 slice_bounds-start-end c = let g = c.loop-i.invariant in omega (arith, g.start, g.stored.size, c.requires.fits, c.of.ensures.store, start_next c.args.kinds.now c.loop-i.i, start_inside c.args.kinds.now c.loop-i.i c.loop-i-test.true)
-
-pub bounds-fills-i : goal.bounds-fills-i
-bounds-fills-i c = omega (arith, c.loop-i-test.true, c.requires.equal)
 
 pub loop-i-preserved : goal.loop-i-preserved
 loop-i-preserved c =
@@ -38,9 +29,6 @@ loop-i-preserved c =
     let e : n ≡ c.of.result.store = add-sub_cancel_left at c.of.result.store in
     let room : at + n ≤ length c.loop-i.store = omega (arith, e, z, g.start, g.stored.size, c.requires.fits, start_next a.kinds.now i, start_inside a.kinds.now i h) in
     sharing_more g h (started_share a.kinds.now a.fills.now c.loop-i.store at i n (kind_at a.kinds.now i h c.requires.good) (e ∙ z) room c.start.ensures.store) z
-
-pub shape_of-store : goal.shape_of-store
-shape_of-store c = c.loop-i.invariant.stored.size
 
 pub returns : goal.returns
 returns c = sharing_end c.loop-i.invariant c.loop-i-test.false

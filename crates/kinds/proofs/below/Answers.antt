@@ -1,20 +1,7 @@
 -- The invariant: ok tells whether the places below i are below their limits, and most is the limit of place i.
-use native.Mathlib.Omega.{arith}
-use Rattle.kinds.specs.Judging.{judging_none, judging_more, judging_not, judging_all, most_fits}
+use Rattle.kinds.specs.Judging.{judging_more, judging_not, judging_all}
 use Rattle.kinds.proofs.below.Goals as goal
 use Rattle.kinds.proofs.below.Goals.{then-places-i, else-places-i}
-
-pub loop-i-init : goal.loop-i-init
-loop-i-init c = judging_none c.requires.0
-
-pub offset_bounds-places-i : goal.offset_bounds-places-i
-offset_bounds-places-i c = omega (arith, c.requires.1)
-
-pub bounds-places-i : goal.bounds-places-i
-bounds-places-i c = omega (arith, c.requires.1)
-
-pub overflow_add-most : goal.overflow_add-most
-overflow_add-most c = omega (arith, most_fits c.loop-i.invariant c.loop-i-test.true, c.requires.2)
 
 pub loop-i-preserved : goal.loop-i-preserved
 loop-i-preserved c =

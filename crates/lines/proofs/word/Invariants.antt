@@ -1,10 +1,8 @@
 -- `lines::word` is word i: spaces and words in turns.
 use Prim.Native.Nat.{◌-◌}
-use Rattle.lines.specs.Words.{Wording}
+use Rattle.std.specs.Prelude.{◌≡◌}
+use Rattle.lines.specs.Words.{word_of}
 use Rattle.lines.proofs.word.Given as goal
 
-abbrev pub invariant-loop-k : goal.invariant-loop-k
-invariant-loop-k l = Wording l.line l.i l.at l.k
-
-abbrev pub decreases-loop-k : goal.decreases-loop-k
-decreases-loop-k l = l.i - l.k
+abbrev pub invariant-loop : goal.invariant-loop
+invariant-loop l = word_of (l.i - l.counter) l.rest ≡ word_of l.i l.line

@@ -1,20 +1,10 @@
 -- `quadratic_walk::place_of` is M: the walk stops at the address.
 use mathlib.Core.Path.{sym, ◌∙◌}
 use native.Mathlib.Nat.{le_antisymm}
-use native.Mathlib.Omega.{arith}
-use Rattle.laws.specs.Seek.{seek_first, seek_here, seek_next, seek_end}
+use Rattle.laws.specs.Seek.{seek_here, seek_next, seek_end}
 use Rattle.quadratic.specs.Formula.{quadratic_m}
 use Rattle.quadratic_walk.specs.Spot.{ready_in}
 use Rattle.quadratic_walk.proofs.place_of.Goals as goal
-
-pub twice_of-twice-requires : goal.twice_of-twice-requires
-twice_of-twice-requires c = (c.requires.second_in, c.requires.small)
-
-pub new-at-requires : goal.new-at-requires
-new-at-requires c = record { whole = c.requires; cell_in = omega arith }
-
-pub loop-t-init : goal.loop-t-init
-loop-t-init c = seek_first (record { whole = c.requires; twice_is = c.twice_of-twice.ensures }) c.new-at.ensures
 
 pub returns-then-at-a : goal.returns-then-at-a
 unfolding quadratic_m

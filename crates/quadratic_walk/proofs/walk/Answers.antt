@@ -1,13 +1,7 @@
 -- `quadratic_walk::walk` is the walk for L from any cell: 9 by its test, and else what `write` wrote.
-use Rattle.laws.specs.Leaves.{leaf_past, ran_leaf}
+use Rattle.laws.specs.Leaves.{ran_leaf}
 use Rattle.quadratic.proofs.Law.{address_below}
 use Rattle.quadratic_walk.proofs.walk.Goals as goal
-
-pub returns-then-cell-q : goal.returns-then-cell-q
-returns-then-cell-q c = leaf_past c.if-cell-q.true
-
-pub write-count-requires : goal.write-count-requires
-write-count-requires c = record { whole = c.requires; cell_in = c.if-cell-q.false }
 
 pub returns : goal.returns
 returns c =

@@ -1,14 +1,7 @@
 -- `quadratic_walk::write_two` is two steps of the walk, wherever it stands.
-use native.Mathlib.Omega.{arith}
-use lib.ListN.{length-set}
 use Rattle.laws.specs.Resting.{walk_two}
 use Rattle.quadratic_walk.specs.Spot.{spots, step_of}
 use Rattle.quadratic_walk.proofs.write_two.Goals as goal
-
-pub bounds-out-i-2 : goal.bounds-out-i-2
-bounds-out-i-2 c =
-    let a = c.args in
-    omega (arith, c.requires.1, length-set a.out.now a.i a.start.value)
 
 pub returns : goal.returns
 returns c = λ f1 f2 cell count old h g.

@@ -1,11 +1,8 @@
 -- The invariant: since the stretch began, the bytes below i are moved, and place is where byte i goes.
 use mathlib.Core.Path.{refl}
 use native.Mathlib.Omega.{arith}
-use Rattle.delay.specs.Loops.{byte_left, stretching_none, stretching_more, stretching_all}
+use Rattle.delay.specs.Loops.{byte_left, stretching_more, stretching_all}
 use Rattle.rings.proofs.moves.Goals as goal
-
-pub loop-place-init : goal.loop-place-init
-loop-place-init c = stretching_none _ c.requires.1 c.requires.2 c.requires.3
 
 pub bounds-input-i : goal.bounds-input-i
 bounds-input-i c = byte_left c.loop-place.invariant (omega arith)
@@ -13,14 +10,8 @@ bounds-input-i c = byte_left c.loop-place.invariant (omega arith)
 pub bounds-out-i : goal.bounds-out-i
 bounds-out-i c = let inv = c.loop-place.invariant in omega (arith, byte_left inv (omega arith), inv.room)
 
-pub overflow_add-i : goal.overflow_add-i
-overflow_add-i c = omega (arith, byte_left c.loop-place.invariant (omega arith))
-
 pub loop-place-preserved : goal.loop-place-preserved
 loop-place-preserved c = stretching_more c.loop-place.invariant (omega arith) refl refl
-
-pub shape_of-store : goal.shape_of-store
-shape_of-store c = c.loop-place.invariant.long
 
 pub returns : goal.returns
 returns c = stretching_all c.loop-place.invariant (omega arith)

@@ -7,9 +7,6 @@ use Rattle.rings.proofs.pass.Goals as goal
 pub loop-i-init : goal.loop-i-init
 loop-i-init c = passing_none
 
-pub overflow_add-i : goal.overflow_add-i
-overflow_add-i c = omega (arith)
-
 pub loop-i-preserved : goal.loop-i-preserved
 loop-i-preserved c = passing_more c.loop-i.invariant (omega arith) c.requires.2 refl
 

@@ -27,39 +27,6 @@ here_at h = record { at = refl; row = h }
 column_inside : (k : ℕ) {c j : ℕ} → c ≡ cols k → j < c → j < cols k
 column_inside k e h = omega (arith, e, h)
 
-pub loop-j-init : goal.loop-j-init
-loop-j-init c =
-    let z = c.requires in
-    (z.row, z.exponents, to (record { at = z.place; row = z.row }) (begun _ _ _ _ _ z.within))
-
-pub overflow_sub-room : goal.overflow_sub-room
-overflow_sub-room c = omega (arith, c.loop-j.invariant.2.room, c.loop-j.invariant.2.size)
-
-pub one_column-n-requires : goal.one_column-n-requires
-one_column-n-requires c =
-    let col_room : c.args.shape.r ≤ length c.loop-j.out - c.loop-j.n = leb-true c.args.shape.r (length c.loop-j.out - c.loop-j.n) (both (eqb c.loop-j.i 0) _ c.if-i-r.true).1 in
-    let z = c.requires in
-    record {
-      shape = z.shape;
-      tables = z.tables;
-      column = (column_inside c.args.shape.k c.requires.shape.cols_is c.loop-j-test.true);
-      exponents = exponents_to (eqb-true c.loop-j.i 0 (both (eqb c.loop-j.i 0) _ c.if-i-r.true).0) c.loop-j.invariant.1;
-      room = omega (
-        arith,
-        col_room,
-        z.shape.rows_is,
-        rows_pos c.args.shape.k,
-      );
-    }
-
-pub overflow_add-j : goal.overflow_add-j
-overflow_add-j c = let k = c.args.shape.k in omega (arith, (column_inside c.args.shape.k c.requires.shape.cols_is c.loop-j-test.true), cols_high k, prime_small k)
-
-pub loop-j-smaller-then-i-r : goal.loop-j-smaller-then-i-r
-loop-j-smaller-then-i-r c =
-    let k = c.args.shape.k in
-    omega (arith, place_inside c.args.shape.k (here_at c.loop-j.invariant.0) (column_inside c.args.shape.k c.requires.shape.cols_is c.loop-j-test.true), rows_pos k, add-mul c.loop-j.j 1 (rows k), one-mul (rows k))
-
 pub loop-j-preserved-then-i-r : goal.loop-j-preserved-then-i-r
 loop-j-preserved-then-i-r c =
     let f = c.one_column-n.ensures in
@@ -67,40 +34,12 @@ loop-j-preserved-then-i-r c =
     let z = (eqb-true c.loop-j.i 0 (both (eqb c.loop-j.i 0) _ c.if-i-r.true).0) in
     (c.loop-j.invariant.0, exponents_to (sym z) f.exponents, to (place_on (here_at c.loop-j.invariant.0) z e) (column_on (here_at c.loop-j.invariant.0) z e f.goes c.loop-j.invariant.2))
 
-pub one_cell-n-requires : goal.one_cell-n-requires
-one_cell-n-requires c =
-    let room_left : c.loop-j.n < length c.loop-j.out = let l = c.loop-j in let h : ¬ (length l.out - l.n ≡ 0) = c.if-room-eq0.false in omega arith in
-    let z = c.requires in
-    let l = c.loop-j in
-    record {
-      shape = z.shape;
-      tables = z.tables;
-      row = l.invariant.0;
-      column = (column_inside c.args.shape.k c.requires.shape.cols_is c.loop-j-test.true);
-      exponents = l.invariant.1;
-      room = room_left;
-    }
-
-pub overflow_add-i : goal.overflow_add-i
-overflow_add-i c = omega (arith, c.loop-j.invariant.0, rows_le c.args.shape.k)
-
-pub overflow_add-j-then-i-r-2 : goal.overflow_add-j-then-i-r-2
-overflow_add-j-then-i-r-2 c = let k = c.args.shape.k in omega (arith, (column_inside c.args.shape.k c.requires.shape.cols_is c.loop-j-test.true), cols_high k, prime_small k)
-
-pub loop-j-smaller-then-i-r-2 : goal.loop-j-smaller-then-i-r-2
-loop-j-smaller-then-i-r-2 c =
-    let k = c.args.shape.k in
-    omega (arith, place_inside c.args.shape.k (here_at c.loop-j.invariant.0) (column_inside c.args.shape.k c.requires.shape.cols_is c.loop-j-test.true), c.if-i-r-2.true, c.requires.shape.rows_is, add-mul c.loop-j.j 1 (rows k), one-mul (rows k))
-
 pub loop-j-preserved-then-i-r-2 : goal.loop-j-preserved-then-i-r-2
 loop-j-preserved-then-i-r-2 c =
     let k = c.args.shape.k in
     let f = c.one_cell-n.ensures in
     let e = c.if-i-r-2.true ∙ c.requires.shape.rows_is in
     (rows_pos k, exponents_top k (rw e at f.exponents), to (place_over k (here_at c.loop-j.invariant.0) e) (cell_on (here_at c.loop-j.invariant.0) f.goes c.loop-j.invariant.2))
-
-pub loop-j-smaller : goal.loop-j-smaller
-loop-j-smaller c = omega (arith, place_inside c.args.shape.k (here_at c.loop-j.invariant.0) (column_inside c.args.shape.k c.requires.shape.cols_is c.loop-j-test.true))
 
 pub loop-j-preserved : goal.loop-j-preserved
 loop-j-preserved c =
@@ -113,12 +52,6 @@ overflow_mul-here c = omega (arith, ap (λ (x : ℕ). c.loop-j.j * x) c.requires
 
 pub overflow_add-here : goal.overflow_add-here
 overflow_add-here c = omega (arith, ap (λ (x : ℕ). c.loop-j.j * x) c.requires.shape.rows_is, c.loop-j.invariant.2.until, cells_le c.args.shape.k)
-
-pub overflow_sub-seen : goal.overflow_sub-seen
-overflow_sub-seen c = omega (arith, ap (λ (x : ℕ). c.loop-j.j * x) c.requires.shape.rows_is, c.loop-j.invariant.2.since)
-
-pub shape_of-out : goal.shape_of-out
-shape_of-out c = c.loop-j.invariant.2.size
 
 pub returns : goal.returns
 unfolding walk_list walk_cells walk_slice

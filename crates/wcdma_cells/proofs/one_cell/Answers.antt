@@ -55,9 +55,6 @@ offset_bounds-e-i-2 c = omega (arith, row_small c.requires)
 pub bounds-e-i-2 : goal.bounds-e-i-2
 bounds-e-i-2 c = row_small c.requires
 
-pub overflow_cast-out : goal.overflow_cast-out
-overflow_cast-out c = let z = c.requires.shape.size.high in omega arith
-
 pub returns-then-a-k : goal.returns-then-a-k
 returns-then-a-k c =
     let next_exponents : Exponents c.args.shape.k (c.args.i + 1) c.args.j (set c.args.e.now c.args.i c.next_exponent.result) = let z = c.requires in exponents_down _ z.exponents z.row c.next_exponent.result (raised_is z c.next_exponent.result c.next_exponent.ensures) in

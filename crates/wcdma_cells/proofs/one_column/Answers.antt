@@ -7,23 +7,6 @@ use Rattle.wcdma_shape.specs.Rectangle.{rows}
 use Rattle.wcdma_cells.proofs.Place.{exponents_top}
 use Rattle.wcdma_cells.proofs.one_column.Goals as goal
 
-pub loop-i-init : goal.loop-i-init
-loop-i-init c = (c.requires.exponents, (λ c₀ o x. rw add-zero x), omega arith, refl)
-
-pub one_cell-w-requires : goal.one_cell-w-requires
-one_cell-w-requires c =
-    let z = c.requires in
-    let l = c.loop-i in
-    let t = c.loop-i-test.true in
-    record {
-      shape = z.shape;
-      tables = z.tables;
-      row = omega (arith, z.shape.rows_is);
-      column = z.column;
-      exponents = l.invariant.0;
-      room = omega (arith, z.room, l.invariant.2, l.invariant.3);
-    }
-
 pub loop-i-preserved : goal.loop-i-preserved
 loop-i-preserved c =
     let a = c.args in
@@ -34,9 +17,6 @@ loop-i-preserved c =
       omega (arith, f.most, l.invariant.2),
       f.same ∙ l.invariant.3,
     )
-
-pub shape_of-out : goal.shape_of-out
-shape_of-out c = c.loop-i.invariant.3
 
 pub returns : goal.returns
 returns c =

@@ -20,18 +20,6 @@ loop-x-init c = (c.requires.long, omega (arith, c.requires.root.big), refl, belo
 pub overflow_sub-s : goal.overflow_sub-s
 overflow_sub-s c = let l = c.loop-x in omega (arith, l.invariant.2, power_pos c.requires.root l.x, c.requires.least)
 
-pub overflow_cast-s : goal.overflow_cast-s
-overflow_cast-s c = let l = c.loop-x in omega (arith, l.invariant.1, c.requires.small)
-
-pub offset_bounds-s-x : goal.offset_bounds-s-x
-offset_bounds-s-x c = omega (arith, c.loop-x-test.true, c.requires.small)
-
-pub bounds-s-x : goal.bounds-s-x
-bounds-s-x c = omega (arith, c.loop-x-test.true, c.requires.small)
-
-pub next_power-last-requires : goal.next_power-last-requires
-next_power-last-requires c = let z = c.requires in record { big = z.root.big; small = z.small; six = z.root.six; below = c.loop-x.invariant.1 }
-
 pub loop-x-preserved : goal.loop-x-preserved
 loop-x-preserved c =
     let l = c.loop-x in
@@ -44,15 +32,6 @@ loop-x-preserved c =
       fill_more (λ y. power a.p a.v y - a.less) l.s l.x (l.last - a.less)
           (omega (arith, l.invariant.0, c.loop-x-test.true, z.small)) (ap (λ (y : ℕ). y - a.less) l.invariant.2) l.invariant.3,
     )
-
-pub overflow_sub-p : goal.overflow_sub-p
-overflow_sub-p c = let z = c.requires in omega (arith, z.least, z.root.big)
-
-pub overflow_sub-p-2 : goal.overflow_sub-p-2
-overflow_sub-p-2 c = let z = c.requires in omega (arith, z.least, z.root.big)
-
-pub overflow_cast-p : goal.overflow_cast-p
-overflow_cast-p c = let z = c.requires in omega (arith, z.small)
 
 pub second_half-requires : goal.second_half-requires
 second_half-requires c =

@@ -1,21 +1,14 @@
 -- `second_half` takes the first half of the powers from top, one by one.
 use Prim.Native.Nat.{◌-◌}
-use borrow.Author.Count.{below_none}
 use lib.ListN.{get_or, length-set}
 use mathlib.Core.Path.{refl}
 use native.Mathlib.Omega.{arith}
 use Rattle.wcdma_powers.proofs.Halves.{one_more}
 use Rattle.wcdma_powers.proofs.second_half.Goals as goal
 
-pub loop-x-init : goal.loop-x-init
-loop-x-init c = (c.requires.long, record { first = λ y h. refl; second = below_none _ })
-
 pub overflow_sub-s : goal.overflow_sub-s
 overflow_sub-s c =
     let l = c.loop-x in let h = c.loop-x-test.true in omega (arith, l.invariant.1.first l.x h, c.requires.low l.x h)
-
-pub overflow_cast-s : goal.overflow_cast-s
-overflow_cast-s c = omega (arith, c.requires.small)
 
 pub loop-x-preserved : goal.loop-x-preserved
 loop-x-preserved c =

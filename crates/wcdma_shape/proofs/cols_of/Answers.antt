@@ -20,14 +20,8 @@ overflow_sub-p c = omega (arith, bounds c.requires)
 pub overflow_mul-r : goal.overflow_mul-r
 overflow_mul-r c = let b = bounds c.requires in omega (arith, product_small b.0 (let h : c.args.p - 1 ≤ 258 = omega arith in h))
 
-pub overflow_sub-result : goal.overflow_sub-result
-overflow_sub-result c = omega (arith, bounds c.requires)
-
 pub returns-then-k-r : goal.returns-then-k-r
 returns-then-k-r c = sym (cols_a _ c.requires (sym c.is_within-own.ensures ∙ c.if-own.false) c.if-k-r.true)
-
-pub overflow_mul-r-2 : goal.overflow_mul-r-2
-overflow_mul-r-2 c = let b = bounds c.requires in omega (arith, product_small b.0 (let h : c.args.p ≤ 258 = omega arith in h))
 
 pub returns-then-k-r-2 : goal.returns-then-k-r-2
 returns-then-k-r-2 c = sym (cols_b _ c.requires (sym c.is_within-own.ensures ∙ c.if-own.false) c.if-k-r.false c.if-k-r-2.true)

@@ -1,14 +1,10 @@
 -- `prime_of` is p.
 use mathlib.Core.Path.{refl, sym, ◌∙◌}
-use native.Mathlib.Omega.{arith}
 use Rattle.wcdma_shape.proofs.Cases.{prime_middle, rows_some, seek_first, seek_out, seek_found_p, seek_on}
 use Rattle.wcdma_shape.proofs.prime_of.Goals as goal
 
 pub returns-then-is_within : goal.returns-then-is_within
 returns-then-is_within c = sym (prime_middle _ (sym c.is_within.ensures ∙ c.if-is_within.true))
-
-pub overflow_sub-least : goal.overflow_sub-least
-overflow_sub-least c = let z = c.requires.size.low in omega arith
 
 pub loop-n-init : goal.loop-n-init
 loop-n-init c = seek_first c.requires (sym c.is_within.ensures ∙ c.if-is_within.false)

@@ -10,9 +10,6 @@ pub returns-then-is_within : goal.returns-then-is_within
 unfolding primes
 returns-then-is_within c = record { listed = omega arith; prime_is = sym (prime_middle _ (sym c.is_within.ensures ∙ c.if-is_within.true)) }
 
-pub overflow_sub-least : goal.overflow_sub-least
-overflow_sub-least c = let z = c.requires.size.low in omega arith
-
 pub loop-n-init : goal.loop-n-init
 loop-n-init c = seek_first c.requires (sym c.is_within.ensures ∙ c.if-is_within.false)
 

@@ -12,14 +12,6 @@ use Rattle.wcdma_shape.proofs.shape_of.Goals as goal
 prime_here : {k n p : ℕ} {list : List ℕ} → p ≡ get_or list n 0 → list ≡ primes → PlaceOf k n → p ≡ prime k
 prime_here {k} {n} e t o = e ∙ ap (λ (l : List ℕ). get_or l n 0) t ∙ o.prime_is
 
-pub cols_of-c-requires : goal.cols_of-c-requires
-cols_of-c-requires c =
-    record {
-      size = c.requires;
-      rows_is = c.rows_of-r.ensures;
-      prime_is = prime_here refl c.primes_table-list.ensures c.prime_place-n.ensures;
-    }
-
 pub returns : goal.returns
 returns c = (
   refl,

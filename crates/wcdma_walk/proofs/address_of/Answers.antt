@@ -8,9 +8,6 @@ use Rattle.laws.specs.Leaves.{holds_l}
 use Rattle.wcdma.proofs.Law.{turbo_lawful}
 use Rattle.wcdma_walk.proofs.address_of.Goals as goal
 
-pub slice_bounds-walk-end : goal.slice_bounds-walk-end
-slice_bounds-walk-end c = sym (length-take-le (c.args.t + 1) _ (omega (arith, c.requires.0.high, c.requires.1)))
-
 pub returns : goal.returns
 returns c =
     let t = c.args.t in

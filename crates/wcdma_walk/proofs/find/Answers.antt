@@ -3,9 +3,6 @@ use native.Mathlib.Omega.{arith}
 use Rattle.laws.specs.Position.{position_end, position_here, position_later}
 use Rattle.wcdma_walk.proofs.find.Goals as goal
 
-pub loop-i-init : goal.loop-i-init
-loop-i-init c = omega arith
-
 pub returns-then-address-a : goal.returns-then-address-a
 returns-then-address-a c =
     let l = c.loop-i in

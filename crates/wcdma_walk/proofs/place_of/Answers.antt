@@ -8,9 +8,6 @@ use Rattle.wcdma.proofs.Law.{as_many}
 use Rattle.wcdma.specs.Turbo.{turbo_m}
 use Rattle.wcdma_walk.proofs.place_of.Goals as goal
 
-pub slice_bounds-find-end : goal.slice_bounds-find-end
-slice_bounds-find-end c = sym (ap length (table_front c.args.k c.requires _ c.walk.ensures (omega (arith, c.requires.high))) ∙ as_many _ c.requires.high)
-
 pub returns : goal.returns
 unfolding turbo_m
 returns c = c.find.ensures ∙ ap (position _) (table_front c.args.k c.requires _ c.walk.ensures (omega (arith, c.requires.high)))

@@ -44,10 +44,6 @@ fill-went-requires c =
     let b = c.short_by-less in
     fill_in c.requires _ _ _ _ b.result b.ensures c.powers.ensures c.lay_out.ensures
 
-pub exchange-requires : goal.exchange-requires
-exchange-requires c =
-    (c.requires.shape, c.is_full-full.ensures)
-
 pub returns : goal.returns
 returns c =
     exchange_went c.args.shape.k c.args.cell _ c.requires.within c.fill-went.ensures c.exchange.ensures

@@ -1,14 +1,8 @@
 -- `carrier_rows::RowSpot::next` is one column on, whatever the row and the column.
 use native.Mathlib.Nat.{mod-lt}
 use native.Mathlib.Omega.{arith}
-use Rattle.carrier_rows.specs.Row.{row_over, row_on, d_small}
+use Rattle.carrier_rows.specs.Row.{row_over, row_on}
 use Rattle.carrier_rows.proofs.RowSpot.next.Goals as goal
-
-pub lift_up-lift-requires : goal.lift_up-lift-requires
-lift_up-lift-requires c = (c.requires.lift_small, d_small c.requires)
-
-pub overflow_add-result : goal.overflow_add-result
-overflow_add-result c = let z = c.requires in omega (arith, z.group_is, z.group_small, z.base_small)
 
 pub returns-then-low-b : goal.returns-then-low-b
 returns-then-low-b c = λ row col p.

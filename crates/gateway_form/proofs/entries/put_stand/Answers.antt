@@ -11,20 +11,11 @@ use Rattle.gateway_form.specs.Form.{stand_bytes}
 use borrow.Author.Rules.{rules}
 use Rattle.gateway_form.proofs.entries.put_stand.Goals as goal
 
-pub loop-place-init : goal.loop-place-init
-loop-place-init c =
-    let l : length c.args.s.places ≡ 51 = search rules in
-    (storing_first number_bytes _ _ _, omega arith, omega (arith, length-sets c.args.store.now c.args.at (number_bytes c.args.s.branch), ap length c.put_number.ensures), l)
-
 pub loop-place-preserved : goal.loop-place-preserved
 loop-place-preserved c =
     let inv = c.loop-place.invariant in
     let h = c.loop-place-test.true in
     (storing_more number_bytes inv.0 (omega (arith, inv.3, h)) 0 refl c.put_number-in-loop-place.ensures refl, omega (arith, inv.1), inv.2, inv.3)
-
-pub shape_of-store : goal.shape_of-store
-shape_of-store c =
-    c.loop-place.invariant.0.size ∙ ap length c.put_number.ensures ∙ length-sets c.args.store.now c.args.at (number_bytes c.args.s.branch)
 
 pub returns : goal.returns
 unfolding stand_bytes

@@ -4,12 +4,6 @@ use Rattle.kinds.specs.Kinds.{sound}
 use native.Mathlib.Omega.{arith}
 use Rattle.gateway_form.proofs.limits.limits_of.Goals as goal
 
-pub overflow_cast-step : goal.overflow_cast-step
-overflow_cast-step c = omega (arith, c.of-z.ensures.short)
-
-pub overflow_sub-rings : goal.overflow_sub-rings
-overflow_sub-rings c = omega (arith, c.of-z.ensures.some)
-
 pub loop-init : goal.loop-init
 loop-init c = limiting_first _
 
@@ -18,9 +12,6 @@ overflow_add-limit c =
     let z = c.of-z.ensures in
     let k = sound c.args.kind in
     omega (arith, limit_fits c.loop.invariant k.few (omega (arith, z.branches)) k.ring, z.step)
-
-pub bounds-limits-at : goal.bounds-limits-at
-bounds-limits-at c = omega (arith, c.loop.invariant.place, c.of-z.ensures.few)
 
 pub loop-preserved : goal.loop-preserved
 loop-preserved c =
