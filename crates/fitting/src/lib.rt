@@ -22,7 +22,8 @@ fn next_single(u: u32, n: u32) -> u32
     if u < n { 0 } else { u }
 }
 
-// Of u and twice, four, eight and sixteen times as much.
+// Of u and twice, four, eight and sixteen times as much. (Five tests in a row, as the contract lists the sizes: of a loop that doubles the proof would have
+// to say how far it has come, by a list of its own.)
 fn next_doubling(u: u32, n: u32) -> u32
     requires { (0 < u) × (u < 65536) }
     ensures { Next (λ k. one_of k (doubles u)) n result }

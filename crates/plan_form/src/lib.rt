@@ -19,7 +19,8 @@ pub const PLANS: usize = 16;
 // The last profile that plan files know.
 pub const PROFILES: u32 = 5;
 
-// Where a list stands in its file, and how many addresses it has.
+// Where a list stands in its file, and how many addresses it has. (File and list are two parameters: of a struct that holds both, each clause would say
+// `x.entry.file.now` and `x.entry.list`.)
 #[derive(Clone, Copy)]
 pub struct Listing {
     pub offset: usize,

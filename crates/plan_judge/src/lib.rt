@@ -80,6 +80,7 @@ pub fn compare(set: Set, file: &[u8], list: Listing, piece: &mut [u16]) -> Tally
     let count = list.count;
     let mut w = pieces::begin(set);
     let mut tally = Tally { first: 0, count: 0 };
+    // (A `while`: how far a turn goes is what the walk has written.)
     while w.at < n {
         let at = w.at;
         w = pieces::next(set, w, piece);

@@ -88,6 +88,7 @@ fn put_list(out: &mut [u8], at: usize, set: Set, piece: &mut [u16])
 {
     let n = set.n as usize;
     let mut w = pieces::begin(set);
+    // (A `while`: how far a turn goes is what the walk has written.)
     while w.at < n {
         let k = w.at;
         w = pieces::next(set, w, piece);
