@@ -2,6 +2,7 @@
 ghost use Rattle.std.specs.Prelude.{◌≡◌, ◌≤◌};
 ghost use Rattle.words.specs.Gathered.{Put, PutNumber};
 
+use lines::first;
 use std::io::{Error, ErrorKind, Result};
 use system::{STDERR_FILENO, STDOUT_FILENO, System};
 
@@ -47,7 +48,7 @@ impl Text {
 
     // Writes what waits.
     pub fn flush(self) {
-        write(self.system, STDOUT_FILENO, &self.room[..self.at]);
+        flush(self.system, &self.room, self.at);
     }
 }
 
@@ -75,6 +76,11 @@ pub fn put_number(system: System, room: &mut [u8; ROOM], from: usize, n: u64) ->
     let mut digits = [0u8; 20];
     let k = io::decimal(n, &mut digits);
     put(system, room, from, &digits[..k])
+}
+
+// Writes what waits.
+pub fn flush(system: System, room: &[u8; ROOM], at: usize) {
+    write(system, STDOUT_FILENO, first(room, at));
 }
 
 // Std writes to no other descriptor: a write to one fails.
