@@ -25,7 +25,7 @@ pub fn pass(branches: usize, from: usize, input: &[u8], out: &mut [u8])
     requires { (0 < branches) × (branches < 65536) × (length out.old ≡ length input.now) }
     ensures { Passed branches from input.now out.old out.new }
 {
-    // (A `for` over a `step_by` makes a test more at each byte, of whether there is a next one.)
+    // (A `for` over a `step_by` makes a test more at each byte, of whether there is a next one: 7 instructions in place of 5.)
     let mut i = from;
     while i < input.len() {
         out[i] = input[i];
@@ -34,8 +34,8 @@ pub fn pass(branches: usize, from: usize, input: &[u8], out: &mut [u8])
 }
 
 // A stretch of count neighbouring places, from at on: byte from goes to the first of them, and each branches-th after it to the next. Returns the byte
-// that comes after them. (What the loops are given is no struct: of seven things that `turn` hands on, three differ from stretch to stretch and three
-// are lent, and `stretch` puts a known number in place of the last.)
+// that comes after them. (What the loops are given is no struct: of seven things, three differ from stretch to stretch, three are lent, and
+// in place of `branches` stands a number that the compiler knows.)
 fn moves(
     branches: usize,
     from: usize,
