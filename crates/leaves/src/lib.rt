@@ -1,5 +1,7 @@
 // Which leaf is asked for the walk and for one address of an accepted set: that of its family. A crate for each family has its leaves; families has
 // their rules. Inner functions: whoever calls them has tested the set, and the position.
+// (No trait over the families' crates: it would say the two clauses that they share, by WalkLeaf and rule_in, once more, with a type and an impl for each,
+// and which is asked would still be picked here. And no match on the family: one question after the other is some ten instructions less.)
 #![tactic(auto)]
 
 ghost use Rattle.std.specs.Prelude.{◌≡◌, ◌<◌};
