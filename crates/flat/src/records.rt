@@ -14,10 +14,8 @@ pub fn record_of(stream: &[u32; STREAM]) -> Stream
     ensures { result ≡ stream_of stream.now }
 {
     let mut places = [0u32; Stream::RINGS];
-    let mut i = 0;
-    while i < Stream::RINGS {
+    for i in 0..Stream::RINGS {
         places[i] = stream[i + 2];
-        i += 1;
     }
     Stream {
         kind: stream[0],
@@ -34,10 +32,8 @@ fn numbers_of(s: Stream) -> [u32; STREAM]
     let mut row = [0u32; STREAM];
     row[0] = s.kind;
     row[1] = s.branch;
-    let mut i = 0;
-    while i < Stream::RINGS {
+    for i in 0..Stream::RINGS {
         row[i + 2] = places[i];
-        i += 1;
     }
     row
 }

@@ -15,7 +15,7 @@ pub fn gcd_of(a: u32, b: u32) -> u32
 pub fn least(a: usize, b: usize) -> usize
     ensures { result ≡ min a b }
 {
-    if a <= b { a } else { b }
+    a.min(b)
 }
 
 // Of two numbers below this, a difference that wraps round below 0 is at least this.

@@ -9,12 +9,10 @@ use Rattle.flat.proofs.records.record_of.Goals as goal
 pub loop-i-preserved : goal.loop-i-preserved
 loop-i-preserved c =
     let i = c.loop-i.i in
-    let inv = c.loop-i.invariant in
-    (omega arith, filled_more _ _ _ _ _ _ inv.1 (omega arith) (rw (zero-add i)))
+    filled_more _ _ _ _ _ _ c.loop-i.invariant (omega arith) (rw (zero-add i))
 
 pub returns : goal.returns
 unfolding stream_of
 returns c =
-    let inv = c.loop-i.invariant in
     let e : c.loop-i.i ≡ 51 = omega arith in
-    rw (filled_all _ _ _ _ (rw e at inv.1))
+    rw (filled_all _ _ _ _ (rw e at c.loop-i.invariant))
