@@ -28,8 +28,8 @@ fn move_by<T: Copy, const N: usize>(way: Way, set: Set, src: &[T], dst: &mut [T]
     }
 }
 
-// Moves a judged block by the smallest table that holds its symbols. (`symbols` and `combine` choose by the same three lines: a helper that all share would take
-// the loops as a closure, and no contract tells what an `FnOnce` has written into what it borrowed.)
+// Moves a judged block by the smallest table that holds its symbols. (`symbols` and `combine` choose by the same three lines: a helper that all share would
+// take the loops as a closure, and no contract tells what an `FnOnce` has written into what it borrowed.)
 fn move_judged<T: Copy>(way: Way, set: Set, src: &[T], dst: &mut [T])
     requires { Judged set (symbols_of set) (length src.now) (length dst.old) }
     ensures { (z : T) → dst.new ≡ moved way set z src.now dst.old }
