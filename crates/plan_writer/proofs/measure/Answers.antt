@@ -1,6 +1,5 @@
 -- `plan_writer::measure` tests set after set. The loop's invariant: what is left of the test from here is the whole of it.
-use mathlib.Core.Path.{sym, ap, ◌∙◌}
-use Rattle.sets.specs.Verdict.{say_ruled}
+use mathlib.Core.Path.{sym}
 use Rattle.plan_writer.specs.Measuring.{measuring_first, measuring_end, measuring_stops, measuring_more}
 use borrow.Author.Rules.{rules}
 use Rattle.plan_writer.proofs.measure.Goals as goal
