@@ -9,6 +9,6 @@ returns-then-more-eq0 c = rw c.if-more-eq0.true (row_none _ c.args.from)
 pub returns : goal.returns
 returns c =
     elim c.if-tally-eq0.branch [
-      then-tally-eq0 w ↦ rw w.first-is (row_first _ _ c.if-more-eq0.false w.if-tally-eq0.true)
+      | then-tally-eq0 w ↦ rw w.first-is (row_first _ _ c.if-more-eq0.false w.if-tally-eq0.true)
       | else-tally-eq0 w ↦ rw w.first-is (row_later _ _ c.if-more-eq0.false w.if-tally-eq0.false)
     ]
