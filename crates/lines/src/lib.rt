@@ -49,7 +49,8 @@ pub fn word(line: &[u8], i: usize) -> &[u8]
     &rest[..run(rest, true)]
 }
 
-// Puts s after the first `from` bytes of a line, as far as there is room, and answers where it ends.
+// Puts s after the first `from` bytes of a line, as far as there is room, and answers where it ends. (Room and `from` are two, and no struct with a length
+// in its range: any `from` may be given.)
 pub fn append(room: &mut [u8; ROOM], from: usize, s: &[u8]) -> usize
     ensures { Appended room.old from s.now room.new result }
 {

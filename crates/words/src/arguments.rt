@@ -9,7 +9,7 @@ use system::System;
 // A word of a command has at most so many bytes; a longer argument counts as empty.
 pub const LONGEST: usize = 48;
 
-// Where the line of some arguments ends, and how many of them are not named.
+// Where the line of some arguments ends, and how many of them are not named. (The room is lent beside it: `join` leaves the line in its caller's.)
 #[derive(Clone, Copy)]
 struct Ends {
     at: usize,
