@@ -91,11 +91,12 @@ impl Tried {
     }
 }
 
-// A line for the test of sets.
-pub fn tried_line(system: System, title: &[u8], t: Tried) {
+// A line for the test of sets. Gives the differences back.
+pub fn tried_line(system: System, title: &[u8], t: Tried) -> u64 {
     let _ = system.print(title);
     number(system, b": sets ", t.sets);
     number(system, b" accepted ", t.accepted);
     number(system, b" differences ", t.differences);
     let _ = system.print(b"\n");
+    t.differences
 }

@@ -1,10 +1,8 @@
 // The test of f1 and f2 held against trying all positions: every K of profile 8 up to 128, with every f1 and f2 from 0 to K.
 use crate::chosen::{four, quadratic_set, verdict};
-use crate::count;
 use crate::count::Tried;
 use second::squares::shares;
 use sets::Set;
-use system::System;
 
 fn set_of(k: u32, f1: u32, f2: u32) -> Set {
     quadratic_set(k, four(f1, f2, 0, 0))
@@ -50,10 +48,8 @@ fn each(exchanged: bool, seen: &mut [u16]) -> Tried {
     t
 }
 
-// A line for all of them; with f1 and f2 exchanged for the test, what is counted is in no total.
-pub fn show(system: System, title: &[u8], exchanged: bool) -> u64 {
+// All of them; with f1 and f2 exchanged for the test, what is counted is in no total.
+pub fn tried(exchanged: bool) -> Tried {
     let mut seen = [0u16; 128];
-    let t = each(exchanged, &mut seen);
-    count::tried_line(system, title, t);
-    t.differences
+    each(exchanged, &mut seen)
 }

@@ -1,11 +1,9 @@
 // The test of P0 to P3 held against trying all outputs: N 24 to 64 by 4, with every P0 from 0 to N, and 0, 1, 2, 3, N/2, N - 1 and N for each of P1,
 // P2 and P3.
 use crate::chosen::{coupled_set, four, verdict};
-use crate::count;
 use crate::count::Tried;
 use second::coupled::shares;
 use sets::Factors;
-use system::System;
 
 // One of the seven numbers for P1, P2 and P3.
 fn seven(n: u32, digit: u32) -> u32 {
@@ -72,10 +70,8 @@ fn each(exchanged: bool, seen: &mut [u16]) -> Tried {
     t
 }
 
-// A line for all of them; with P1 and P2 exchanged for the test, what is counted is in no total.
-pub fn show(system: System, title: &[u8], exchanged: bool) -> u64 {
+// All of them; with P1 and P2 exchanged for the test, what is counted is in no total.
+pub fn tried(exchanged: bool) -> Tried {
     let mut seen = [0u16; 64];
-    let t = each(exchanged, &mut seen);
-    count::tried_line(system, title, t);
-    t.differences
+    each(exchanged, &mut seen)
 }

@@ -22,7 +22,7 @@ mod slices;
 mod wrong;
 
 use chosen::{Choice, eighteen_at};
-use count::Count;
+use count::{Count, tried_line};
 use laws::Way;
 use lists::{Made, list_of, symbols_of, walks_of};
 use num::sum;
@@ -142,17 +142,17 @@ fn main(rt: HostRuntime) {
         lists::every_spatial_m(system),
     );
     let listed = lists::every_lte(system);
-    let pairs = decided::show(
+    let pairs = tried_line(
         system,
         b"the test of f1 and f2 against all positions tried, profile 8, K 40 to 128",
-        false,
+        decided::tried(false),
     );
     let lte = sum(listed, pairs);
     let coupled = lists::every_couple(system);
-    let fours = fours::show(
+    let fours = tried_line(
         system,
         b"the test of P0 to P3 against all outputs tried, profile 9, N 24 to 64",
-        false,
+        fours::tried(false),
     );
     let wimax = sum(coupled, fours);
     let fitting = fitted::show(
@@ -170,11 +170,15 @@ fn main(rt: HostRuntime) {
     wrong_blocks(system);
     wrong_singles(system);
     wrong::walks(system);
-    decided::show(system, b"wrong on purpose, the test of f2 and f1", true);
-    fours::show(
+    tried_line(
+        system,
+        b"wrong on purpose, the test of f2 and f1",
+        decided::tried(true),
+    );
+    tried_line(
         system,
         b"wrong on purpose, the test of P0, P2, P1 and P3",
-        true,
+        fours::tried(true),
     );
     fitted::show(
         system,
