@@ -17,7 +17,9 @@ use Rattle.plan_form.specs.Right.{Right, Wrongly, wrong_positions}
 use Rattle.plan_form.specs.Planned.{planned_lines, planned_profile, planned_accepted}
 use Rattle.plan_writer.specs.File.{set_at, sets_in, file_of, file_length, bad_of}
 use Rattle.plan_writer.specs.Bad.{FirstBad}
-use Rattle.plans.specs.Judging.{Compared, same, wrong, compared, judge_lines, judged_of, counted_of}
+use Rattle.plans.specs.declared.judging.Compared.{Compared}
+use Rattle.plans.specs.declared.judging.Compared.TheVariants.{Same, Wrong}
+use Rattle.plans.specs.Judging.{same, wrong, compared, judge_lines, judged_of, counted_of}
 use Rattle.plans.specs.Writing.{length_lines, write_lines, room_lines, length_of, written_of, buffer_of}
 use Rattle.plans.proofs.WritingLaws.{length_says, write_done, write_new}
 use Rattle.plans.specs.Differing.{differed_of}
@@ -139,8 +141,8 @@ module _ (f : List ℕ) (plan : ℕ) where
     where
       go : (c : Compared) → compared (list_in f (plan - 1)) (list_of (set_in f (plan - 1))) ≡ c → judged_of f plan ≡ done (compared (list_in f (plan - 1)) (list_of (set_in f (plan - 1))))
           → (p : ℕ) × (k : ℕ) × (judged_of f plan ≡ done (wrong p k))
-      go same q e = absurd (n ((law.judged_equal f plan).0 (e ∙ ap done q)).1)
-      go (wrong p k) q e = (p, k, e ∙ ap done q)
+      go Same q e = absurd (n ((law.judged_equal f plan).0 (e ∙ ap done q)).1)
+      go (Wrong p k) q e = (p, k, e ∙ ap done q)
 
 -- the wrong positions of two lists: those below the larger length that aren't right in both, a missing or surplus place among them
 pub wrong_exactly : (xs ys : List ℕ) (p : ℕ) → Memᴰ p (wrongs xs ys) ↔ ((p < max (length xs) (length ys)) × (Right xs ys p → ⊥))

@@ -8,7 +8,8 @@ use Rattle.pieces.specs.Pieces.{list_of}
 use Rattle.plan_form.specs.Form.{plans_in, set_in, set_of, list_in, file_line}
 use Rattle.plan_form.specs.Planned.{planned_lines}
 use Rattle.plan_writer.specs.File.{sets_in, file_length, all_lines, bad_of}
-use Rattle.plans.specs.Judging.{Compared, compared, judge_lines, judged_of, counted_of}
+use Rattle.plans.specs.declared.judging.Compared.{Compared}
+use Rattle.plans.specs.Judging.{compared, judge_lines, judged_of, counted_of}
 use Rattle.plans.specs.Writing.{count_lines, size_lines, room_lines, length_lines, write_lines, length_of, written_of}
 use Rattle.flat.specs.Flat.{number_of, out_of}
 use Rattle.lent_plans.specs.Plans.{first_of, wrong_of}
