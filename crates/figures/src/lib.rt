@@ -31,27 +31,30 @@ pub fn size_of(set: Set) -> usize
 }
 
 impl Reception {
-    // The values of some bytes, of n that are looked for.
-    fn of(bytes: &[u8; BYTES], k: usize, n: usize) -> Self
-        requires { n ≤ 6144 }
+    // One of which nothing came.
+    pub fn new() -> Self
+        ensures { result.count ≡ 0 }
     {
-        let mut values = [0.0f32; VALUES];
-        let mut present = [0u8; VALUES];
-        let count = values::count(k, n);
-        values::decode(count, bytes, &mut values, &mut present);
         Reception {
-            values,
-            present,
-            count,
+            values: [0.0; VALUES],
+            present: [0; VALUES],
+            count: 0,
         }
     }
 
-    // The reception in the file that argument i names. Whatever fails is said.
-    pub fn read(system: System, set: Set, i: usize) -> Option<Self> {
+    // Takes the reception in the file that argument i names. Whatever fails is said.
+    pub fn read(&mut self, system: System, set: Set, i: usize) -> Option<()> {
         let mut bytes = [0u8; BYTES];
         let n = size_of(set);
         let k = bytes::read(system, i, &mut bytes[..4 * n + 4])?;
-        Some(Reception::of(&bytes, k, n))
+        let count = values::count(k, n);
+        for t in 0..count {
+            let bits = values::bits_at(&bytes, t);
+            self.values[t] = values::value_of(bits);
+            self.present[t] = values::presence_of(bits);
+        }
+        self.count = count;
+        Some(())
     }
 
     pub fn values(&self) -> &[f32]

@@ -3,10 +3,10 @@ ghost use Rattle.std.specs.Prelude.{◌≡◌, ◌≤◌, ◌<◌};
 ghost use Rattle.std.specs.Float.{binary32};
 ghost use Rattle.std.specs.Float.Ieee.{nan_bits};
 
-use super::{BYTES, VALUES};
+use super::BYTES;
 
 // The bits of value t.
-fn bits_at(bytes: &[u8; BYTES], t: usize) -> u32
+pub(super) fn bits_at(bytes: &[u8; BYTES], t: usize) -> u32
     requires { t < 6145 }
 {
     let i = 4 * t;
@@ -20,31 +20,15 @@ fn is_blank(bits: u32) -> bool
     bits % 2147483648 > 2139095040
 }
 
-fn value_of(bits: u32) -> f32 {
+pub(super) fn value_of(bits: u32) -> f32 {
     if is_blank(bits) {
         return 0.0;
     }
     f32::from_bits(bits)
 }
 
-fn presence_of(bits: u32) -> u8 {
+pub(super) fn presence_of(bits: u32) -> u8 {
     u8::from(!is_blank(bits))
-}
-
-// The first k values, and which of them are there.
-pub(super) fn decode(
-    k: usize,
-    bytes: &[u8; BYTES],
-    received: &mut [f32; VALUES],
-    present: &mut [u8; VALUES],
-)
-    requires { k ≤ 6145 }
-{
-    for t in 0..k {
-        let bits = bits_at(bytes, t);
-        received[t] = value_of(bits);
-        present[t] = presence_of(bits);
-    }
 }
 
 // How many values a file of so many bytes counts as: n only where it has just n, and n + 1 where it has more.

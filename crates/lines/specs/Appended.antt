@@ -1,4 +1,4 @@
--- A line's room of 512 bytes with s after its first bytes: s is stored there byte by byte as far as there is room, and nothing else changes.
+-- A line's room of 512 bytes with s after its first bytes: s is stored there as far as there is room, and nothing else changes.
 -- `in_full`: where all of s has room, that is the first bytes, then s, then what stood behind it.
 use Rattle.std.specs.Prelude.{ℕ, ◌+◌, ◌-◌, ◌≤◌, ◌<◌, min, ◌≡◌, refl, Bool, true, false, ltb, List, ◌++◌, length, take, drop}
 use Rattle.std.proofs.Common.{◌∙◌, ap, sym, append_assoc, arith, ltb-true, ltb-false, take_all, length-take}

@@ -50,72 +50,50 @@ fn put_reading(text: &mut Text, k: u32, r: Reading) {
     }
 }
 
-// The receptions of a set's block so far, by input index: what was added up, and how often.
-#[derive(Clone, Copy)]
-struct Block {
+// Adds the reception in the file that argument i names. What fails is said, and a refusal. (Sums and counts are lent side by side, as `combine` asks for them:
+// of a struct that is lent, two fields can't be lent on at once, and by value each copy would be 37 KB of stack.)
+fn add_file(
+    system: System,
     set: Set,
-    sums: [f32; LARGE],
-    counts: [u16; LARGE],
+    i: usize,
+    reception: &mut Reception,
+    sums: &mut [f32],
+    counts: &mut [u16],
+) -> Option<()> {
+    reception.read(system, set, i)?;
+    match combine::add(set, reception.values(), reception.present(), sums, counts) {
+        Ok(()) => Some(()),
+        Err(x) => {
+            refused(system, x);
+            None
+        }
+    }
 }
 
-impl Block {
-    // Nothing was received yet.
-    fn of(set: Set) -> Self {
-        Block {
-            set,
-            sums: [0.0; LARGE],
-            counts: [0; LARGE],
+// Adds all files, from argument `first` on.
+fn add_files(
+    system: System,
+    set: Set,
+    first: usize,
+    sums: &mut [f32],
+    counts: &mut [u16],
+) -> Option<()> {
+    let mut reception = Reception::new();
+    for i in first..system.arg_count() {
+        if !is_beside(system, i) {
+            add_file(system, set, i, &mut reception, sums, counts)?;
         }
     }
+    Some(())
+}
 
-    // The block with a reception added. A refusal is said.
-    fn with(mut self, system: System, reception: &Reception) -> Option<Self> {
-        let n = figures::size_of(self.set);
-        match combine::add(
-            self.set,
-            reception.values(),
-            reception.present(),
-            &mut self.sums[..n],
-            &mut self.counts[..n],
-        ) {
-            Ok(()) => Some(self),
-            Err(x) => {
-                refused(system, x);
-                None
-            }
-        }
+// What each position holds, a line each.
+fn show(system: System, set: Set, sums: &[f32], counts: &[u16]) {
+    let mut text = Text::new(system);
+    for k in 0..set.n {
+        put_reading(&mut text, k, combine::read(set, sums, counts, k));
     }
-
-    // With the file that argument i names.
-    fn with_file(self, system: System, i: usize) -> Option<Self> {
-        let reception = Reception::read(system, self.set, i)?;
-        self.with(system, &reception)
-    }
-
-    // With all files, from argument `first` on.
-    fn with_files(self, system: System, first: usize) -> Option<Self> {
-        let mut block = self;
-        for i in first..system.arg_count() {
-            if !is_beside(system, i) {
-                block = block.with_file(system, i)?;
-            }
-        }
-        Some(block)
-    }
-
-    fn read(&self, k: u32) -> Reading {
-        let n = figures::size_of(self.set);
-        combine::read(self.set, &self.sums[..n], &self.counts[..n], k)
-    }
-
-    // What each position holds, a line each.
-    fn show(&self, system: System) {
-        let mut text = Text::new(system);
-        for k in 0..self.set.n {
-            put_reading(&mut text, k, self.read(k));
-        }
-        text.flush();
-    }
+    text.flush();
 }
 
 // Whether an argument names a file.
@@ -125,13 +103,15 @@ pub fn in_form(system: System) -> bool {
 
 // `combine`, of the files that the arguments name. A blank block is read first, which tells whether the calls refuse the set, before a file is opened.
 pub fn from_files(system: System, set: Set) {
-    let block = Block::of(set);
-    if let Reading::Refused(x) = block.read(0) {
+    let mut sums = [0.0f32; LARGE];
+    let mut counts = [0u16; LARGE];
+    let n = figures::size_of(set);
+    if let Reading::Refused(x) = combine::read(set, &sums[..n], &counts[..n], 0) {
         refused(system, x);
         return;
     }
     let first = first_file(system).unwrap_or(system.arg_count());
-    if let Some(whole) = block.with_files(system, first) {
-        whole.show(system);
+    if add_files(system, set, first, &mut sums[..n], &mut counts[..n]).is_some() {
+        show(system, set, &sums[..n], &counts[..n]);
     }
 }

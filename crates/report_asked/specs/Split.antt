@@ -1,4 +1,4 @@
--- What the three parts of a line's bytes have to do with each other, and the loop that looks for the LF. Rests on Lines.
+-- What the three parts of a line's bytes have to do with each other, and where the LF stands. Rests on Lines.
 use Prim.Native.Nat.{ℕ, suc, ◌+◌, ◌≤◌, ◌<◌}
 use Rattle.std.specs.Prelude.{Bool, true, false, cond, not, ◌≡◌, refl, eqb, nat_eq, nat_lt, take, drop, unwrap_or, Some, None}
 use Rattle.std.specs.List.{position, position_or_len}

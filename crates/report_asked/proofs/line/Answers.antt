@@ -1,4 +1,4 @@
--- `line` is what stands before the first LF.
+-- `line` is what stands before the first LF, or all where there is none.
 use mathlib.Core.Path.{◌∙◌, ap}
 use Rattle.std.specs.Prelude.{ℕ, Option, length, unwrap_or}
 use lib.ListN.{take}
