@@ -18,15 +18,14 @@ use Rattle.carrier_turned.specs.Turned as leaf
 use Rattle.wcdma_shape.specs.Rectangle.{Size}
 use Rattle.wcdma.specs.Turbo.{turbo_rule}
 use Rattle.quadratic.specs.Formula.{quadratic_rule}
-use Rattle.quadratic.specs.declared.Quadratic as square
-use Rattle.quadratic_walk.specs.Spot as squares
+use Rattle.quadratic.specs.Whole as square
 use Rattle.couples.specs.declared.Couples.{Couples}
 use Rattle.couples.specs.Formula.{coupled_rule}
 use Rattle.couples.specs.Test.{Numbered}
 use Rattle.families.specs.Rules.{rule_of, rule_in, barred, rule_is}
 use Rattle.families.specs.Taken.{Taken}
 
--- of each family: the block that is made of a set, what its leaves require of it, its size, and its rule. First of the two steps
+-- of each family: the block that is made of a set, or its numbers, what its leaves require of it, its size, and its rule. First of the two steps
 whole_of : (s : Set) → Carried s → Whole (rows_of s) s.n (group_of s)
 whole_of s z = record { size = z.sized; small = omega (arith, z.small) }
 
@@ -66,20 +65,21 @@ module _ {s : Set} (t : Taken s Turbo) where
   pub turbo_rule_lem : turbo_rule s.n ≡ rule_of s
   turbo_rule_lem = sym (rule_is s t.which)
 
-abbrev pub quadratic_of : Set → square.Quadratic
-quadratic_of s = record { k = s.n; f1 = f1 s; f2 = f2 s }
+abbrev pub quadratic_of : Set → ℕ × ℕ × ℕ
+quadratic_of s = (s.n, f1 s, f2 s)
 
-module _ {s : Set} (t : Taken s Quadratic) {q : square.Quadratic} (e : q ≡ quadratic_of s) where
-  pub quadratic_whole : squares.Whole q.k q.f1 q.f2
+module _ {s : Set} (t : Taken s Quadratic) where
+  pub quadratic_whole : square.Whole s.n (f1 s) (f2 s)
   quadratic_whole =
       let z = quadratic_size s t.accepted t.which in
-      rw e (record { size = z.size; small = omega (arith, z.small); first_in = z.first_in; second_in = z.second_in })
+      record { size = z.size; small = omega (arith, z.small); first_in = z.first_in; second_in = z.second_in }
 
-  pub quadratic_k : q.k ≡ s.n
-  quadratic_k = ap (λ (q : square.Quadratic). q.k) e
+  module _ {k first second : ℕ} (e : (k, first, second) ≡ quadratic_of s) where
+    pub quadratic_k : k ≡ s.n
+    quadratic_k = ap (λ (x : ℕ × ℕ × ℕ). x.0) e
 
-  pub quadratic_rule_lem : quadratic_rule q.k q.f1 q.f2 ≡ rule_of s
-  quadratic_rule_lem = ap (λ (q : square.Quadratic). quadratic_rule q.k q.f1 q.f2) e ∙ sym (rule_is s t.which)
+    pub quadratic_rule_lem : quadratic_rule k first second ≡ rule_of s
+    quadratic_rule_lem = ap (λ (x : ℕ × ℕ × ℕ). quadratic_rule x.0 x.1 x.2) e ∙ sym (rule_is s t.which)
 
 module _ {s : Set} (t : Taken s Coupled) {c : Couples} (e : c ≡ couples_of s) where
   pub couples_numbered : Numbered c
