@@ -3,14 +3,16 @@
 #![tactic(auto)]
 
 ghost use Rattle.std.specs.Prelude.{◌≡◌, ◌*◌, ◌≤◌, ◌<◌};
+ghost use Rattle.carrier.specs.Block.{Whole, whole_prop};
 ghost use Rattle.carrier.specs.Third.{turn};
 
-// A block of the first two steps: its d, N and s.
+// A block of the first two steps: its d, N and s. N is a positive multiple of d, N/d is a multiple of s, and N is below 2 to the 16th.
 #[derive(Clone, Copy)]
 pub struct Carrier {
     pub d: usize,
     pub n: usize,
     pub s: usize,
+    ghost whole: { Whole d n s } by { whole_prop },
 }
 
 // How far a spatial stream is turned, for streams 1 to 4: by division, once a call.

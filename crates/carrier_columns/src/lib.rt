@@ -1,13 +1,12 @@
 // M: one address, and the walk, a column of the input at a time. The walk divides when it is set up and never after. The
-// public functions are leaf functions: the crate above them tests a set first, and shows what they require.
+// public functions are leaf functions: the crate above them tests a set first, and makes its block.
 #![tactic(auto)]
 
-ghost use Rattle.std.specs.Prelude.{◌≡◌, ℕ, ◌+◌, ◌/◌, ◌%◌, ◌<◌};
+ghost use Rattle.std.specs.Prelude.{◌≡◌, ℕ, ◌+◌, ◌/◌, ◌%◌, ◌≤◌, ◌<◌};
 ghost use Rattle.laws.specs.Sized.{Sized};
 ghost use Rattle.laws.specs.Lanes.{Ran};
 ghost use Rattle.laws.specs.Walk.{back, LeafOf};
 ghost use Rattle.carrier.specs.Formula.{carrier_m, carrier_rule};
-ghost use Rattle.carrier.specs.Block.{Block, Whole};
 ghost use Rattle.carrier_columns.specs.Column.{ColumnAt, ColumnIn, ColumnStep};
 ghost use Rattle.carrier_columns.specs.Down.{DownIn, Down};
 
@@ -112,8 +111,7 @@ fn down(
 
 // M(k), for k below N.
 pub fn address(b: Carrier, k: usize) -> usize
-    requires block { Block b.d b.n b.s k }
-    requires k_lt_n { k < b.n }
+    requires { k < b.n }
     ensures { result ≡ carrier_m b.d b.n b.s k }
 {
     let c = b.n / b.d;
@@ -125,7 +123,7 @@ pub fn address(b: Carrier, k: usize) -> usize
 // Writes M from a cell on, as far as there is room and cells; gives back how many. (The loop counts no index: a pass goes on to where its column ends,
 // and i, col, row and the spot all go there at once.)
 pub fn write(b: Carrier, cell: usize, out: &mut [u16]) -> usize
-    requires { Block b.d b.n b.s cell }
+    requires { cell ≤ b.n }
     ensures { Ran (carrier_m b.d b.n b.s) b.n cell out.old out.new result }
 {
     let c = b.n / b.d;
@@ -147,7 +145,6 @@ pub fn write(b: Carrier, cell: usize, out: &mut [u16]) -> usize
 
 // The walk for M from any cell: 9 past the last, else what is written, and a cell for each address.
 pub fn walk(b: Carrier, cell: usize, out: &mut [u16]) -> Leaf
-    requires { Whole b.d b.n b.s }
     ensures { LeafOf b.n (back b.n (carrier_rule b.d b.n b.s)) cell out.old out.new result }
 {
     if b.n < cell {

@@ -1,13 +1,12 @@
 // L: one address, and the walk, a row of the output at a time. The walk divides when it is set up and never after. The
-// public functions are leaf functions: the crate above them tests a set first, and shows what they require.
+// public functions are leaf functions: the crate above them tests a set first, and makes its block.
 #![tactic(auto)]
 
-ghost use Rattle.std.specs.Prelude.{◌≡◌, ℕ, ◌+◌, ◌-◌, ◌*◌, ◌/◌, ◌%◌, ◌<◌};
+ghost use Rattle.std.specs.Prelude.{◌≡◌, ℕ, ◌+◌, ◌-◌, ◌*◌, ◌/◌, ◌%◌, ◌≤◌, ◌<◌};
 ghost use Rattle.laws.specs.Sized.{Sized};
 ghost use Rattle.laws.specs.Lanes.{Ran};
 ghost use Rattle.laws.specs.Walk.{LeafOf};
 ghost use Rattle.carrier.specs.Formula.{carrier_l, carrier_rule};
-ghost use Rattle.carrier.specs.Block.{Block, Whole};
 ghost use Rattle.carrier_rows.specs.Row.{RowAt, RowIn, RowStep};
 ghost use Rattle.carrier_rows.specs.Along.{AlongIn, Along};
 
@@ -79,7 +78,7 @@ impl RowSpot {
 
     // From the end of a row to the first column of the next.
     fn next_row(self, b: Carrier, top: usize, row: usize) -> Self
-        requires { (self.lift < 65536) × (b.d < 65536) × (row < 65536) }
+        requires { (self.lift < 65536) × (row < 65536) }
         ensures { Sized b.d b.n b.s → top ≡ b.d * (b.s - 1) → RowAt b.d b.s row (b.n / b.d) self
             → RowAt b.d b.s (row + 1) 0 result }
     {
@@ -147,8 +146,7 @@ fn along(
 
 // L(t), for t below N.
 pub fn address(b: Carrier, t: usize) -> usize
-    requires block { Block b.d b.n b.s t }
-    requires t_lt_n { t < b.n }
+    requires { t < b.n }
     ensures { result ≡ carrier_l b.d b.n b.s t }
 {
     let c = b.n / b.d;
@@ -161,7 +159,7 @@ pub fn address(b: Carrier, t: usize) -> usize
 // cell are divided in 32 bits, which they fit; in 64 that takes longer, or the compiled code asks first whether 32 would do. (The loop counts no
 // index: a pass goes on to stop, and i, row, col and the spot all go there at once.)
 pub fn write(b: Carrier, cell: usize, out: &mut [u16]) -> usize
-    requires { Block b.d b.n b.s cell }
+    requires { cell ≤ b.n }
     ensures { Ran (carrier_l b.d b.n b.s) b.n cell out.old out.new result }
 {
     let count = least(out.len(), b.n - cell);
@@ -186,7 +184,6 @@ pub fn write(b: Carrier, cell: usize, out: &mut [u16]) -> usize
 
 // The walk for L from any cell: 9 past the last, else what is written, and a cell for each address. With no room nothing is set up.
 pub fn walk(b: Carrier, cell: usize, out: &mut [u16]) -> Leaf
-    requires { Whole b.d b.n b.s }
     ensures { LeafOf b.n (carrier_rule b.d b.n b.s) cell out.old out.new result }
 {
     if b.n < cell {

@@ -12,7 +12,8 @@ use sets::Set;
 
 // The block: d, N and s.
 fn block_of(set: Set) -> carrier::Carrier
-    ensures { result ≡ carrier_of set }
+    requires { Taken set Carrier }
+    ensures { (result.d, result.n, result.s) ≡ carrier_of set }
 {
     carrier::Carrier {
         d: sets::numbers_of(set).d as usize,

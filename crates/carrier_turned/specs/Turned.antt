@@ -1,18 +1,19 @@
 -- The walks of a spatial stream over how far it is turned: what they write on either side of the seam, and that the turn of its numbers makes them
 -- the walks of its rule. Rests on Third and Turned of crate carrier.
 use Rattle.std.specs.Prelude.{ℕ, ◌+◌, ◌-◌, ◌*◌, ◌%◌, ◌≤◌, ◌<◌, List, ◌≡◌, length}
-use Rattle.std.proofs.Common.{sym, ◌∙◌, le_of_lt}
+use Rattle.std.proofs.Common.{sym, ◌∙◌}
 use Rattle.std.proofs.Math.Path.{ap}
 use Rattle.std.proofs.Math.Nat.{mod-eq_of_lt, add-mod_right}
 use native.Mathlib.Omega.{arith}
 use Rattle.laws.specs.Loop.{by}
 use Rattle.laws.specs.Walk.{Rule}
 use Rattle.carrier.specs.Block.{Block, Whole, block}
+use Rattle.carrier.specs.declared.Carrier.{Carrier}
 use Rattle.carrier.specs.Formula.{carrier_l, carrier_m}
 use Rattle.carrier.specs.Third.{turn, third_step, third_back, spatial_l, spatial_m, spatial_rule}
 use Rattle.carrier.proofs.Once.{carrier_once}
 use Rattle.carrier.proofs.Turned.{turn_below}
-use Rattle.carrier_turned.specs.declared.Stream.{Stream}
+use Rattle.carrier_turned.specs.declared.stream.Stream.{Stream}
 
 -- L and M of the two steps, turned by v
 unfoldable pub turned_l : ℕ → ℕ → ℕ → ℕ → ℕ → ℕ
@@ -21,12 +22,15 @@ turned_l d n s v t = carrier_l d n s ((t + v) % n)
 unfoldable pub turned_m : ℕ → ℕ → ℕ → ℕ → ℕ → ℕ
 turned_m d n s v k = (carrier_m d n s k + n - v) % n
 
--- a cell of such a block, or the one behind its last
+-- a turn of a block, and a cell of it, or the one behind its last
 pub record Within (d n s v cell : ℕ) : Type 0 where
   pub at : Block d n s cell
   pub turn_in : v < n
 
--- the block of a stream: its turn, its rule, and what the leaf functions require of it
+pub within : (b : Carrier) {v cell : ℕ} → v < b.n → cell ≤ b.n → Within b.d b.n b.s v cell
+within b h l = record { at = block b.whole l; turn_in = h }
+
+-- the block of a stream: its turn, its rule, and what holds of it
 abbrev pub turn_by : Stream → ℕ
 turn_by b = turn b.bits b.r b.stream
 
@@ -38,6 +42,10 @@ pub record Spatial (b : Stream) : Type 0 where
   pub first : 1 ≤ b.stream
   pub last : b.stream ≤ 4
   pub below : 3 * (b.r * b.bits) < b.steps.n
+
+-- every block of a stream is one
+pub spatial : (b : Stream) → Spatial b
+spatial b = record { whole = b.steps.whole; first = b.turned.0; last = b.turned.1; below = b.turned.2 }
 
 -- its turn is below N
 pub turn_in : {b : Stream} → Spatial b → turn_by b < b.steps.n
@@ -79,13 +87,6 @@ module _ (d n s v t : ℕ) (h : v < n) (l : t < n) where
 module _ {b : Stream} (h : Spatial b) {v : ℕ} (e : v ≡ turn_by b) where
   pub turn_lt : v < b.steps.n
   turn_lt = rw e (turn_in h)
-
-  pub within : {cell : ℕ} → cell ≤ b.steps.n → Within b.steps.d b.steps.n b.steps.s v cell
-  within l = record { at = block h.whole l; turn_in = turn_lt }
-
--- what an address of the two steps requires
-pub block_at : {b : Stream} → Spatial b → {t : ℕ} → t < b.steps.n → Block b.steps.d b.steps.n b.steps.s t × (t < b.steps.n)
-block_at h l = (block h.whole (le_of_lt l), l)
 
 -- its rule is the two steps', turned by it
 module _ (b : Stream) {v : ℕ} (e : v ≡ turn_by b) where

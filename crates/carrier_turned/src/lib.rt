@@ -1,30 +1,24 @@
 // The carrier interleaver of a spatial stream: the first two steps as carrier_rows and carrier_columns walk them, and turned. L is the walk for L of
 // the two steps from the cell that lies the turn ahead, in two pieces where it passes N, since there it begins again at 0. M is the walk for M of
 // the two steps, and a pass over what it wrote that takes the turn off. A walk divides when it is set up, and never after. The public
-// functions are leaf functions: the crate above them tests a set first, and shows what they require.
+// functions are leaf functions: the crate above them tests a set first, and makes its block.
 #![tactic(auto)]
 
-ghost use Rattle.std.specs.Prelude.{◌≡◌, ℕ, ◌+◌, ◌<◌, map};
+mod stream;
+
+ghost use Rattle.std.specs.Prelude.{◌≡◌, ℕ, ◌+◌, ◌≤◌, ◌<◌, map};
 ghost use Rattle.laws.specs.Lanes.{Ran};
 ghost use Rattle.laws.specs.Walk.{LeafOf, back};
-ghost use Rattle.carrier_turned.specs.Turned.{turned_l, turned_m, Within, rule_by, Spatial, TakenOff, off};
+ghost use Rattle.carrier_turned.specs.Turned.{turned_l, turned_m, rule_by, TakenOff, off};
 
 use carrier::{Carrier, turn_of};
 use laws::{Leaf, Went};
 use residues::least;
-
-// A block of a spatial stream: that of the first two steps, and bits, r and the stream of the third.
-#[derive(Clone, Copy)]
-pub struct Stream {
-    pub steps: Carrier,
-    pub bits: usize,
-    pub r: usize,
-    pub stream: usize,
-}
+pub use stream::Stream;
 
 // Writes L from a cell on, as far as there is room and cells; gives back how many. seam is the cell that holds what the two steps have at 0.
 fn write_l(b: Carrier, v: usize, cell: usize, out: &mut [u16]) -> usize
-    requires { Within b.d b.n b.s v cell }
+    requires { (v < b.n) × (cell ≤ b.n) }
     ensures { Ran (turned_l b.d b.n b.s v) b.n cell out.old out.new result }
 {
     let count = least(out.len(), b.n - cell);
@@ -65,7 +59,7 @@ fn take_off(n: usize, v: usize, out: &mut [u16])
 
 // Writes M from a cell on, as far as there is room and cells; gives back how many.
 fn write_m(b: Carrier, v: usize, cell: usize, out: &mut [u16]) -> usize
-    requires { Within b.d b.n b.s v cell }
+    requires { (v < b.n) × (cell ≤ b.n) }
     ensures { Ran (turned_m b.d b.n b.s v) b.n cell out.old out.new result }
 {
     let count = carrier_columns::write(b, cell, out);
@@ -75,7 +69,6 @@ fn write_m(b: Carrier, v: usize, cell: usize, out: &mut [u16]) -> usize
 
 // The walk for L from any cell: 9 past the last, else what is written, and a cell for each address.
 pub fn walk_l(b: Stream, cell: usize, out: &mut [u16]) -> Leaf
-    requires { Spatial b }
     ensures { LeafOf b.steps.n (rule_by b) cell out.old out.new result }
 {
     if b.steps.n < cell {
@@ -91,7 +84,6 @@ pub fn walk_l(b: Stream, cell: usize, out: &mut [u16]) -> Leaf
 
 // The walk for M from any cell, likewise.
 pub fn walk_m(b: Stream, cell: usize, out: &mut [u16]) -> Leaf
-    requires { Spatial b }
     ensures { LeafOf b.steps.n (back b.steps.n (rule_by b)) cell out.old out.new result }
 {
     if b.steps.n < cell {
@@ -107,7 +99,7 @@ pub fn walk_m(b: Stream, cell: usize, out: &mut [u16]) -> Leaf
 
 // L(t), for t below N.
 pub fn one_l(b: Stream, t: usize) -> usize
-    requires { Spatial b × (t < b.steps.n) }
+    requires { t < b.steps.n }
     ensures { result ≡ (rule_by b).l t }
 {
     let v = turn_of(b.bits, b.r, b.stream);
@@ -120,7 +112,7 @@ pub fn one_l(b: Stream, t: usize) -> usize
 
 // M(k), for k below N.
 pub fn one_m(b: Stream, k: usize) -> usize
-    requires { Spatial b × (k < b.steps.n) }
+    requires { k < b.steps.n }
     ensures { result ≡ (rule_by b).m k }
 {
     let v = turn_of(b.bits, b.r, b.stream);

@@ -1,5 +1,5 @@
 -- What each family's leaf requires of an accepted set, and that the rule it serves is the set's.
-use Rattle.std.specs.Prelude.{ℕ, List, ◌≡◌}
+use Rattle.std.specs.Prelude.{ℕ, List, ◌≡◌, ◌*◌, ◌≤◌, ◌<◌}
 use Rattle.std.proofs.Common.{sym, ap, ap₂, ◌∙◌, subst, arith}
 use Rattle.laws.specs.declared.Way.{Way}
 use Rattle.laws.specs.Walk.{Leaf, Rule, in_way, LeafOf}
@@ -10,54 +10,58 @@ use Rattle.sets.specs.Set.{rows_of, rotation_of, group_of, f1, f2, couples_of}
 use Rattle.sets.specs.Fit.{Carried}
 use Rattle.sets.proofs.Carried.{carrier_size, spatial_size, stream_in, turbo_size, quadratic_size, coupled_size}
 use Rattle.carrier.specs.Formula.{carrier_rule}
-use Rattle.carrier.specs.declared.Carrier as two
+use Rattle.carrier.specs.Third.{spatial_rule}
 use Rattle.carrier.specs.Block.{Whole}
-use Rattle.carrier_turned.specs.declared.Stream.{Stream}
-use Rattle.carrier_turned.specs.Turned.{rule_by}
-use Rattle.carrier_turned.specs.Turned as leaf
 use Rattle.wcdma_shape.specs.Rectangle.{Size}
 use Rattle.wcdma.specs.Turbo.{turbo_rule}
 use Rattle.quadratic.specs.Formula.{quadratic_rule}
-use Rattle.quadratic.specs.declared.Quadratic as square
-use Rattle.quadratic_walk.specs.Spot as squares
+use Rattle.quadratic.specs.Whole as square
 use Rattle.couples.specs.declared.Couples.{Couples}
 use Rattle.couples.specs.Formula.{coupled_rule}
 use Rattle.couples.specs.Test.{Numbered}
 use Rattle.families.specs.Rules.{rule_of, rule_in, barred, rule_is}
 use Rattle.families.specs.Taken.{Taken}
 
--- of each family: the block that is made of a set, what its leaves require of it, its size, and its rule. First of the two steps
+-- of each family: the numbers of the block that is made of a set, what its leaves require of it, its size, and its rule. First of the two steps
 whole_of : (s : Set) → Carried s → Whole (rows_of s) s.n (group_of s)
 whole_of s z = record { size = z.sized; small = omega (arith, z.small) }
 
-abbrev pub carrier_of : Set → two.Carrier
-carrier_of s = record { d = rows_of s; n = s.n; s = group_of s }
+abbrev Three : Type 0
+Three = ℕ × ℕ × ℕ
 
-module _ {s : Set} (t : Taken s Carrier) {b : two.Carrier} (e : b ≡ carrier_of s) where
-  pub carrier_whole : Whole b.d b.n b.s
-  carrier_whole = rw e (whole_of s (carrier_size s t.accepted t.which))
+abbrev pub carrier_of : Set → Three
+carrier_of s = (rows_of s, s.n, group_of s)
 
-  pub carrier_n : b.n ≡ s.n
-  carrier_n = ap (λ (b : two.Carrier). b.n) e
+module _ {s : Set} (t : Taken s Carrier) {d n group : ℕ} (e : (d, n, group) ≡ carrier_of s) where
+  pub carrier_whole : Whole d n group
+  carrier_whole = subst (λ (x : Three). Whole x.0 x.1 x.2) (sym e) (whole_of s (carrier_size s t.accepted t.which))
 
-  pub carrier_rule_lem : carrier_rule b.d b.n b.s ≡ rule_of s
-  carrier_rule_lem = ap (λ (b : two.Carrier). carrier_rule b.d b.n b.s) e ∙ sym (rule_is s t.which)
+  pub carrier_n : n ≡ s.n
+  carrier_n = ap (λ (x : Three). x.1) e
 
-abbrev pub stream_of : Set → Stream
-stream_of s = record { steps = carrier_of s; bits = s.bits; r = rotation_of s; stream = s.stream }
+  pub carrier_rule_lem : carrier_rule d n group ≡ rule_of s
+  carrier_rule_lem = ap (λ (x : Three). carrier_rule x.0 x.1 x.2) e ∙ sym (rule_is s t.which)
 
-module _ {s : Set} (t : Taken s Spatial) {b : Stream} (e : b ≡ stream_of s) where
-  pub spatial_block : leaf.Spatial b
-  spatial_block =
-      let z = spatial_size s t.accepted t.which in
+abbrev pub stream_of : Set → Three × Three
+stream_of s = (carrier_of s, (s.bits, rotation_of s, s.stream))
+
+module _ {s : Set} (t : Taken s Spatial) {d n group bits r stream : ℕ} (e : ((d, n, group), (bits, r, stream)) ≡ stream_of s) where
+  pub spatial_whole : Whole d n group
+  spatial_whole =
+      subst (λ (x : Three × Three). Whole x.0.0 x.0.1 x.0.2) (sym e) (whole_of s (spatial_size s t.accepted t.which))
+
+  pub spatial_turned : (1 ≤ stream) × (stream ≤ 4) × (3 * (r * bits) < n)
+  spatial_turned =
       let i = stream_in s t.accepted in
-      rw e (record { whole = whole_of s z; first = i.0; last = i.1; below = z.below })
+      subst (λ (x : Three × Three). (1 ≤ x.1.2) × (x.1.2 ≤ 4) × (3 * (x.1.1 * x.1.0) < x.0.1)) (sym e)
+      (i.0, i.1, (spatial_size s t.accepted t.which).below)
 
-  pub spatial_n : b.steps.n ≡ s.n
-  spatial_n = ap (λ (b : Stream). b.steps.n) e
+  pub spatial_n : n ≡ s.n
+  spatial_n = ap (λ (x : Three × Three). x.0.1) e
 
-  pub spatial_rule_lem : rule_by b ≡ rule_of s
-  spatial_rule_lem = ap rule_by e ∙ sym (rule_is s t.which)
+  pub spatial_rule_lem : spatial_rule d n group bits r stream ≡ rule_of s
+  spatial_rule_lem =
+      ap (λ (x : Three × Three). spatial_rule x.0.0 x.0.1 x.0.2 x.1.0 x.1.1 x.1.2) e ∙ sym (rule_is s t.which)
 
 module _ {s : Set} (t : Taken s Turbo) where
   pub turbo_sized : Size s.n
@@ -66,20 +70,21 @@ module _ {s : Set} (t : Taken s Turbo) where
   pub turbo_rule_lem : turbo_rule s.n ≡ rule_of s
   turbo_rule_lem = sym (rule_is s t.which)
 
-abbrev pub quadratic_of : Set → square.Quadratic
-quadratic_of s = record { k = s.n; f1 = f1 s; f2 = f2 s }
+abbrev pub quadratic_of : Set → Three
+quadratic_of s = (s.n, f1 s, f2 s)
 
-module _ {s : Set} (t : Taken s Quadratic) {q : square.Quadratic} (e : q ≡ quadratic_of s) where
-  pub quadratic_whole : squares.Whole q.k q.f1 q.f2
+module _ {s : Set} (t : Taken s Quadratic) {k first second : ℕ} (e : (k, first, second) ≡ quadratic_of s) where
+  pub quadratic_whole : square.Whole k first second
   quadratic_whole =
       let z = quadratic_size s t.accepted t.which in
-      rw e (record { size = z.size; small = omega (arith, z.small); first_in = z.first_in; second_in = z.second_in })
+      subst (λ (x : Three). square.Whole x.0 x.1 x.2) (sym e)
+      (record { size = z.size; small = omega (arith, z.small); first_in = z.first_in; second_in = z.second_in })
 
-  pub quadratic_k : q.k ≡ s.n
-  quadratic_k = ap (λ (q : square.Quadratic). q.k) e
+  pub quadratic_k : k ≡ s.n
+  quadratic_k = ap (λ (x : Three). x.0) e
 
-  pub quadratic_rule_lem : quadratic_rule q.k q.f1 q.f2 ≡ rule_of s
-  quadratic_rule_lem = ap (λ (q : square.Quadratic). quadratic_rule q.k q.f1 q.f2) e ∙ sym (rule_is s t.which)
+  pub quadratic_rule_lem : quadratic_rule k first second ≡ rule_of s
+  quadratic_rule_lem = ap (λ (x : Three). quadratic_rule x.0 x.1 x.2) e ∙ sym (rule_is s t.which)
 
 module _ {s : Set} (t : Taken s Coupled) {c : Couples} (e : c ≡ couples_of s) where
   pub couples_numbered : Numbered c

@@ -1,2 +1,3 @@
 pub mod Formula
 pub mod Test
+pub mod Whole

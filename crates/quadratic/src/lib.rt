@@ -4,15 +4,17 @@
 
 ghost use Rattle.std.specs.Prelude.{◌≡◌, ◌*◌, ◌%◌, ◌^◌, ◌<◌};
 ghost use Rattle.quadratic.specs.Formula.{within, all_apart};
+ghost use Rattle.quadratic.specs.Whole.{Whole};
 
 use residues::gcd_of;
 
-// The numbers of a block: K, how many positions it has, and f1 and f2.
+// The numbers of a block: K, how many positions it has, and f1 and f2. K is below 2 to the 16th, and f1 and f2 are below K.
 #[derive(Clone, Copy)]
 pub struct Quadratic {
     pub k: usize,
     pub f1: usize,
     pub f2: usize,
+    ghost whole: { Whole k f1 f2 },
 }
 
 fn square(k: u32, x: u32) -> u32

@@ -12,7 +12,8 @@ use sets::Set;
 
 // The block: K, f1 and f2.
 fn block_of(set: Set) -> quadratic::Quadratic
-    ensures { result ≡ quadratic_of set }
+    requires { Taken set Quadratic }
+    ensures { (result.k, result.f1, result.f2) ≡ quadratic_of set }
 {
     quadratic::Quadratic {
         k: set.n as usize,

@@ -1,25 +1,14 @@
 -- Where a walk stands and how it steps: the address at t + 1 is that at t and a difference more, which grows by 2·f2, both modulo K. Then the
 -- walk from a cell on, and the search for the position of an address, as Stepped, Resting and Seek of laws have them.
-use Rattle.std.specs.Prelude.{List, ◌≡◌, refl, ℕ, ◌+◌, ◌*◌, ◌%◌, ◌≤◌, ◌<◌}
+use Rattle.std.specs.Prelude.{List, ◌≡◌, refl, ℕ, ◌+◌, ◌*◌, ◌%◌, ◌<◌}
 use Rattle.std.proofs.Common.{sym, ap, ap₂, ◌∙◌, mod-lt, arith}
 use Rattle.std.proofs.Math.Nat.{add-mod}
 use Rattle.laws.specs.Resting.{Family, StepOf}
 use Rattle.laws.specs.Seek.{Seeking}
 use Rattle.laws.specs.Stepped.{Stepped}
 use Rattle.quadratic.specs.Formula.{quadratic_l}
+use Rattle.quadratic.specs.Whole.{Whole}
 use Rattle.quadratic_walk.specs.declared.Spot.{Spot}
-
--- what the leaf functions require: a block small enough for addresses of 16 bits, and two numbers below K ..
-pub record Whole (k f1 f2 : ℕ) : Type 0 where
-  pub size : 0 < k
-  pub small : k < 65536
-  pub first_in : f1 < k
-  pub second_in : f2 < k
-
--- .. with a cell of it, or the one behind its last
-pub record Block (k f1 f2 cell : ℕ) : Type 0 where
-  pub whole : Whole k f1 f2
-  pub cell_in : cell ≤ k
 
 -- what the two numbers are at position t
 pub record SpotAt (k f1 f2 t : ℕ) (at : Spot) : Type 0 where

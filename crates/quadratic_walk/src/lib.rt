@@ -1,13 +1,13 @@
 // The quadratic interleaver's addresses: the walk for L from any cell, and one address either way. A position's address and its difference to the next
 // are worked out once a call, by products and remainders; from there on each step is two sums, of which each takes K off at most once. The
-// public functions are leaf functions: the crate above them tests a set first, and shows what they require.
+// public functions are leaf functions: the crate above them tests a set first, and makes its block.
 #![tactic(auto)]
 
 ghost use Rattle.std.specs.Prelude.{◌≡◌, List, ℕ, ◌+◌, ◌*◌, ◌%◌, ◌≤◌, ◌<◌, length};
 ghost use Rattle.laws.specs.Lanes.{Ran};
 ghost use Rattle.laws.specs.Walk.{LeafOf};
 ghost use Rattle.quadratic.specs.Formula.{quadratic_l, quadratic_m, quadratic_rule};
-ghost use Rattle.quadratic_walk.specs.Spot.{Whole, Block, SpotAt, SpotIn, Walking, OneOn};
+ghost use Rattle.quadratic_walk.specs.Spot.{SpotAt, SpotIn, Walking, OneOn};
 
 use laws::{Leaf, Went};
 use quadratic::Quadratic;
@@ -23,7 +23,7 @@ struct Spot {
 impl Spot {
     // At a position: by division, once a call.
     fn new(q: Quadratic, t: usize) -> Self
-        requires { Block q.k q.f1 q.f2 t }
+        requires { t ≤ q.k }
         ensures { SpotAt q.k q.f1 q.f2 t result }
     {
         Spot {
@@ -46,7 +46,6 @@ impl Spot {
 
 // What the difference grows by: 2·f2, modulo K.
 fn twice_of(q: Quadratic) -> usize
-    requires { (q.f2 < q.k) × (q.k < 65536) }
     ensures { result ≡ 2 * q.f2 % q.k }
 {
     2 * q.f2 % q.k
@@ -88,7 +87,7 @@ fn write_rest(
 
 // Writes L from a cell on, as far as there is room and cells, four addresses at a time and then the rest; gives back how many.
 fn write(q: Quadratic, cell: usize, out: &mut [u16]) -> usize
-    requires { Block q.k q.f1 q.f2 cell }
+    requires { cell ≤ q.k }
     ensures { Ran (quadratic_l q.k q.f1 q.f2) q.k cell out.old out.new result }
 {
     let count = least(out.len(), q.k - cell);
@@ -107,7 +106,6 @@ fn write(q: Quadratic, cell: usize, out: &mut [u16]) -> usize
 
 // The walk for L from a cell: 9 where it is past the total.
 pub fn walk(q: Quadratic, cell: usize, out: &mut [u16]) -> Leaf
-    requires { Whole q.k q.f1 q.f2 }
     ensures { LeafOf q.k (quadratic_rule q.k q.f1 q.f2) cell out.old out.new result }
 {
     if cell > q.k {
@@ -122,7 +120,7 @@ pub fn walk(q: Quadratic, cell: usize, out: &mut [u16]) -> Leaf
 
 // L(t), for t below K.
 pub fn address_of(q: Quadratic, t: usize) -> usize
-    requires { Whole q.k q.f1 q.f2 × (t < q.k) }
+    requires { t < q.k }
     ensures { result ≡ quadratic_l q.k q.f1 q.f2 t }
 {
     Spot::new(q, t).value
@@ -130,7 +128,6 @@ pub fn address_of(q: Quadratic, t: usize) -> usize
 
 // M(a), the position whose address is a, by walking there.
 pub fn place_of(q: Quadratic, a: usize) -> usize
-    requires { Whole q.k q.f1 q.f2 }
     ensures { result ≡ quadratic_m q.k q.f1 q.f2 a }
 {
     let twice = twice_of(q);

@@ -14,7 +14,8 @@ use sets::Set;
 
 // The block: d, N and s of the first two steps, and bits, r and the stream of the third.
 fn stream_of(set: Set) -> Stream
-    ensures { result ≡ stream_of set }
+    requires { Taken set Spatial }
+    ensures { ((result.steps.d, result.steps.n, result.steps.s), (result.bits, result.r, result.stream)) ≡ stream_of set }
 {
     let numbers = sets::numbers_of(set);
     Stream {

@@ -5,4 +5,4 @@ use Rattle.carrier_columns.proofs.walk.Goals as goal
 
 pub returns : goal.returns
 returns c =
-    ran_leaf (carrier_once c.requires.size).m_below c.if-b-cell.false c.write-count.ensures
+    ran_leaf (carrier_once c.args.b.whole.size).m_below c.if-b-cell.false c.write-count.ensures

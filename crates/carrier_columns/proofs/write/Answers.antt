@@ -8,7 +8,7 @@ use Rattle.carrier_columns.proofs.write.Goals as goal
 
 pub down-end-requires : goal.down-end-requires
 down-end-requires c =
-    let b = c.requires in
+    let b = c.args.b.whole in
     record {
       size = b.size;
       small = b.small;
@@ -19,11 +19,11 @@ down-end-requires c =
 
 pub overflow_add-col : goal.overflow_add-col
 overflow_add-col c =
-    let p = part c.loop-i.invariant c.loop-i-test.true c.least-stop.ensures (sym (row_whole c.requires.size)) c.least-count.ensures in
-    omega (arith, p.lane_in, div-le_self c.args.b.n c.args.b.d, c.requires.small)
+    let p = part c.loop-i.invariant c.loop-i-test.true c.least-stop.ensures (sym (row_whole c.args.b.whole.size)) c.least-count.ensures in
+    omega (arith, p.lane_in, div-le_self c.args.b.n c.args.b.d, c.args.b.whole.small)
 
 pub loop-i-preserved : goal.loop-i-preserved
 loop-i-preserved c =
-    let b = c.requires in
+    let b = c.args.b.whole in
     lanes_next c.loop-i.invariant c.loop-i-test.true c.least-stop.ensures c.down-end.ensures
     (λ p. c.next_column-at.ensures _ _ b.size)

@@ -7,9 +7,9 @@ use Rattle.carrier_rows.proofs.walk.Goals as goal
 
 pub returns-then-out-eq0 : goal.returns-then-out-eq0
 returns-then-out-eq0 c =
-    ran_leaf (carrier_once c.requires.size).l_below c.if-b-cell.false
+    ran_leaf (carrier_once c.args.b.whole.size).l_below c.if-b-cell.false
     (record { count_is = omega (arith, c.if-out-eq0.true); list_is = refl })
 
 pub returns : goal.returns
 returns c =
-    ran_leaf (carrier_once c.requires.size).l_below c.if-b-cell.false c.write-count.ensures
+    ran_leaf (carrier_once c.args.b.whole.size).l_below c.if-b-cell.false c.write-count.ensures

@@ -1,14 +1,8 @@
 -- `carrier_sets::walk` is the set's walk: the leaf's, at the set's block.
 use Rattle.laws.specs.declared.Way.TheVariants.{Interleaver, Deinterleaver}
 use Rattle.families.specs.Taken.{had_leaf}
-use Rattle.families.specs.Families.{carrier_whole, carrier_n, carrier_rule_lem, leaf_in, barred_is}
+use Rattle.families.specs.Families.{carrier_n, carrier_rule_lem, leaf_in, barred_is}
 use Rattle.carrier_sets.proofs.walk.Goals as goal
-
-pub walk-requires : goal.walk-requires
-walk-requires c = carrier_whole c.requires c.block_of-b.ensures
-
-pub walk-requires-in-Deinterleaver : goal.walk-requires-in-Deinterleaver
-walk-requires-in-Deinterleaver c = carrier_whole c.requires c.block_of-b.ensures
 
 pub returns-in-Interleaver : goal.returns-in-Interleaver
 returns-in-Interleaver c =

@@ -1,17 +1,13 @@
 -- `quadratic_sets::address` is the set's L or M: the leaf's, at the set's block.
 use mathlib.Core.Path.{◌∙◌}
 use Rattle.laws.specs.declared.Way.TheVariants.{Interleaver, Deinterleaver}
-use Rattle.families.specs.Families.{quadratic_whole, quadratic_k, quadratic_rule_lem, one_in}
+use Rattle.families.specs.Families.{quadratic_k, quadratic_rule_lem, one_in}
 use Rattle.quadratic_sets.proofs.address.Goals as goal
 
 pub address_of-requires : goal.address_of-requires
 address_of-requires c =
     let p = c.requires in
-    let e = c.block_of-q.ensures in
-    (quadratic_whole p.0 e, rw (quadratic_k p.0 e) p.1)
-
-pub place_of-requires : goal.place_of-requires
-place_of-requires c = quadratic_whole c.requires.0 c.block_of-q.ensures
+    rw (quadratic_k p.0 c.block_of-q.ensures) p.1
 
 pub returns-in-Interleaver : goal.returns-in-Interleaver
 returns-in-Interleaver c =

@@ -1,11 +1,8 @@
 -- `quadratic_sets::walk` is the set's walk for L, the leaf's, at the set's block; the walk for M is not had.
 use Rattle.laws.specs.declared.Way.TheVariants.{Interleaver}
 use Rattle.families.specs.Taken.{had_leaf, barred_leaf}
-use Rattle.families.specs.Families.{quadratic_whole, quadratic_k, quadratic_rule_lem, leaf_in, barred_is}
+use Rattle.families.specs.Families.{quadratic_k, quadratic_rule_lem, leaf_in, barred_is}
 use Rattle.quadratic_sets.proofs.walk.Goals as goal
-
-pub walk-requires : goal.walk-requires
-walk-requires c = quadratic_whole c.requires c.block_of-q.ensures
 
 pub returns-in-Interleaver : goal.returns-in-Interleaver
 returns-in-Interleaver c =

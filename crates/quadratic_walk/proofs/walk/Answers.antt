@@ -5,4 +5,4 @@ use Rattle.quadratic_walk.proofs.walk.Goals as goal
 
 pub returns : goal.returns
 returns c =
-    ran_leaf (λ x h. address_below _ _ _ c.requires.size x) c.if-cell-q.false c.write-count.ensures
+    ran_leaf (λ x h. address_below _ _ _ c.args.q.whole.size x) c.if-cell-q.false c.write-count.ensures

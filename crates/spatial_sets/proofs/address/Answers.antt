@@ -1,24 +1,14 @@
 -- `spatial_sets::address` is the set's L or M: the leaf's, at the set's block.
-use Prim.Native.Nat.{ℕ, ◌<◌}
-use mathlib.Core.Path.{◌≡◌, ◌∙◌}
+use mathlib.Core.Path.{◌∙◌}
 use Rattle.laws.specs.declared.Way.TheVariants.{Interleaver, Deinterleaver}
-use Rattle.profiles.specs.declared.Family.TheVariants.{Spatial}
-use Rattle.sets.specs.declared.Set.{Set}
-use Rattle.carrier_turned.specs.declared.Stream.{Stream}
-use Rattle.carrier_turned.specs.Turned as leaf
-use Rattle.families.specs.Taken.{Taken}
-use Rattle.families.specs.Families.{stream_of, spatial_block, spatial_n, spatial_rule_lem, one_in}
+use Rattle.families.specs.Families.{spatial_n, spatial_rule_lem, one_in}
 use Rattle.spatial_sets.proofs.address.Goals as goal
 
--- the block, and a position of it
-position : {s : Set} {x : ℕ} {b : Stream} → Taken s Spatial × (x < s.n) → b ≡ stream_of s → leaf.Spatial b × (x < b.steps.n)
-position p e = (spatial_block p.0 e, rw (spatial_n p.0 e) p.1)
-
 pub one_l-requires : goal.one_l-requires
-one_l-requires c = position c.requires c.stream_of-b.ensures
+one_l-requires c = let p = c.requires in rw (spatial_n p.0 c.stream_of-b.ensures) p.1
 
 pub one_m-requires : goal.one_m-requires
-one_m-requires c = position c.requires c.stream_of-b.ensures
+one_m-requires c = let p = c.requires in rw (spatial_n p.0 c.stream_of-b.ensures) p.1
 
 pub returns-in-Interleaver : goal.returns-in-Interleaver
 returns-in-Interleaver c =

@@ -1,10 +1,23 @@
--- `spatial_sets::stream_of` is the set's block.
-use mathlib.Core.Path.{ap₂}
+-- `spatial_sets::stream_of` is the set's block: what holds of every block of a stream is what the test of the set has found.
+use mathlib.Core.Path.{◌≡◌, ap₂}
 use Prim.Native.Nat.{ℕ}
 use Rattle.profiles.specs.declared.Numbers.{Numbers}
+use Rattle.sets.specs.declared.Set.{Set}
+use Rattle.sets.specs.Set.{numbers_of, group_of}
+use Rattle.families.specs.Families.{stream_of, spatial_whole, spatial_turned}
 use Rattle.spatial_sets.proofs.stream_of.Goals as goal
 
+-- its numbers
+numbers : (s : Set) {x : Numbers} {g : ℕ} → x ≡ numbers_of s → g ≡ group_of s → ((x.d, s.n, g), (s.bits, x.r, s.stream)) ≡ stream_of s
+numbers s e f = ap₂ (λ (x : Numbers) (g : ℕ). ((x.d, s.n, g), (s.bits, x.r, s.stream))) e f
+
+pub invariant_of-result : goal.invariant_of-result
+invariant_of-result c =
+    record { whole = spatial_whole c.requires (numbers c.args.set c.numbers_of-numbers.ensures c.group_of.ensures.value) }
+
+pub invariant_of-result-2 : goal.invariant_of-result-2
+invariant_of-result-2 c =
+    record { turned = spatial_turned c.requires (numbers c.args.set c.numbers_of-numbers.ensures c.group_of.ensures.value) }
+
 pub returns : goal.returns
-returns c =
-    let s = c.args.set in
-    ap₂ (λ (x : Numbers) (g : ℕ). record { steps = record { d = x.d; n = s.n; s = g }; bits = s.bits; r = x.r; stream = s.stream }) c.numbers_of-numbers.ensures c.group_of.ensures.value
+returns c = numbers c.args.set c.numbers_of-numbers.ensures c.group_of.ensures.value

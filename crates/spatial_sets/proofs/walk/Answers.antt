@@ -1,14 +1,8 @@
 -- `spatial_sets::walk` is the set's walk: the leaf's, at the set's block.
 use Rattle.laws.specs.declared.Way.TheVariants.{Interleaver, Deinterleaver}
 use Rattle.families.specs.Taken.{had_leaf}
-use Rattle.families.specs.Families.{spatial_block, spatial_n, spatial_rule_lem, leaf_in, barred_is}
+use Rattle.families.specs.Families.{spatial_n, spatial_rule_lem, leaf_in, barred_is}
 use Rattle.spatial_sets.proofs.walk.Goals as goal
-
-pub walk_l-requires : goal.walk_l-requires
-walk_l-requires c = spatial_block c.requires c.stream_of-b.ensures
-
-pub walk_m-requires : goal.walk_m-requires
-walk_m-requires c = spatial_block c.requires c.stream_of-b.ensures
 
 pub returns-in-Interleaver : goal.returns-in-Interleaver
 returns-in-Interleaver c =
