@@ -8,7 +8,7 @@ ghost use Rattle.profiles.specs.Profiles.{family_by, numbers_by, admitted_by, gr
 mod table; // table.rt: what each profile is
 
 // The kinds of interleaver that profiles are of: one rule for each. (crate families, specs/Rules.antt; a crate for each has its leaves.)
-#[derive(Clone, Copy, PartialEq, Eq)]
+#[derive(Clone, Copy)]
 pub enum Family {
     Carrier,
     Spatial,
@@ -27,7 +27,7 @@ pub struct Numbers {
 }
 
 // How the sizes N of a profile come from its unit, its limit and the bits per carrier.
-#[derive(Clone, Copy, PartialEq, Eq)]
+#[derive(Clone, Copy)]
 pub enum Form {
     Only, // unit times bits
     Doubled, // unit times bits, times 1, 2, 4, 8, 16
@@ -39,7 +39,7 @@ pub enum Form {
 }
 
 // The bits per carrier of a profile.
-#[derive(Clone, Copy, PartialEq, Eq)]
+#[derive(Clone, Copy)]
 pub enum Bits {
     Each, // 1, 2, 4, 6
     Even, // 2, 4, 6
@@ -88,11 +88,13 @@ pub fn group_by(bits: u32) -> u32
     ensures value { result ≡ group_by bits }
     ensures result_nonzero { (0 < result) × (result < 4) }
 {
-    match bits {
-        6 => 3,
-        4 => 2,
-        _ => 1,
+    if bits == 6 {
+        return 3;
     }
+    if bits == 4 {
+        return 2;
+    }
+    1
 }
 
 // The step to a size from the one before it, where the form is tiered. (That it is not 0 is promised too.)
@@ -100,10 +102,14 @@ pub fn step_by(n: u32) -> u32
     ensures value { result ≡ step_by n }
     ensures result_nonzero { 0 < result }
 {
-    match n {
-        0..=512 => 8,
-        513..=1024 => 16,
-        1025..=2048 => 32,
-        _ => 64,
+    if n <= 512 {
+        return 8;
     }
+    if n <= 1024 {
+        return 16;
+    }
+    if n <= 2048 {
+        return 32;
+    }
+    64
 }

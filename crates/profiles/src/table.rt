@@ -1,5 +1,6 @@
-// The profiles, question by question: which family, which numbers, what is admitted. Each function is a table, an arm for each answer, and its promise is
+// The profiles, question by question: which family, which numbers, what is admitted. Each function is a table, a branch for each answer, and its promise is
 // arithmetic: what is proved of a further profile of carriers needs its lines here and in specs/Profiles.antt, which says how far, and no others.
+// (Tests in a row, and no match on the number: with matches a walk of profile 1 took some 40 instructions a call more.)
 ghost use Rattle.profiles.specs.Entered.{FamilyEntered, NumbersEntered, AdmittedEntered};
 
 use super::{Admitted, Bits, Family, Form, Numbers};
@@ -13,45 +14,71 @@ pub(super) const LAST: u32 = 9;
 pub(super) fn family(profile: u32) -> Family
     ensures { FamilyEntered profile result }
 {
-    match profile {
-        0..=4 => Family::Carrier,
-        5 => Family::Turbo,
-        8 => Family::Quadratic,
-        9 => Family::Coupled,
-        _ => Family::Spatial,
+    if profile < 5 {
+        return Family::Carrier;
     }
+    if profile < 6 {
+        return Family::Turbo;
+    }
+    if profile == 8 {
+        return Family::Quadratic;
+    }
+    if profile == 9 {
+        return Family::Coupled;
+    }
+    Family::Spatial
 }
 
 // Which numbers.
 pub(super) fn numbers(profile: u32) -> Numbers
     ensures { NumbersEntered profile result }
 {
-    match profile {
-        0..=1 => Numbers {
+    if profile < 2 {
+        return Numbers {
             d: 12,
             r: 0,
             streams: 1,
-        },
-        2..=4 => Numbers {
+        };
+    }
+    if profile < 5 {
+        return Numbers {
             d: 16,
             r: 0,
             streams: 1,
-        },
-        6 => Numbers {
-            d: 13,
-            r: 11,
-            streams: 4,
-        },
-        5 | 8 | 9 => Numbers {
+        };
+    }
+    if profile < 6 {
+        return Numbers {
             d: 0,
             r: 0,
             streams: 1,
-        },
-        _ => Numbers {
-            d: 18,
-            r: 29,
+        };
+    }
+    if profile < 7 {
+        return Numbers {
+            d: 13,
+            r: 11,
             streams: 4,
-        },
+        };
+    }
+    if profile == 8 {
+        return Numbers {
+            d: 0,
+            r: 0,
+            streams: 1,
+        };
+    }
+    if profile == 9 {
+        return Numbers {
+            d: 0,
+            r: 0,
+            streams: 1,
+        };
+    }
+    Numbers {
+        d: 18,
+        r: 29,
+        streams: 4,
     }
 }
 
@@ -59,60 +86,74 @@ pub(super) fn numbers(profile: u32) -> Numbers
 pub(super) fn admitted(profile: u32) -> Admitted
     ensures { AdmittedEntered profile result }
 {
-    match profile {
-        0..=1 => Admitted {
+    if profile < 2 {
+        return Admitted {
             bits: Bits::Each,
             form: Form::Doubled,
             unit: 12,
             limit: 0,
-        },
-        2 => Admitted {
+        };
+    }
+    if profile < 3 {
+        return Admitted {
             bits: Bits::Even,
             form: Form::Multiple,
             unit: 48,
             limit: 576,
-        },
-        3 => Admitted {
+        };
+    }
+    if profile < 4 {
+        return Admitted {
             bits: Bits::Each,
             form: Form::Only,
             unit: 48,
             limit: 0,
-        },
-        4 => Admitted {
+        };
+    }
+    if profile < 5 {
+        return Admitted {
             bits: Bits::Each,
             form: Form::Grouped,
             unit: 16,
             limit: 1536,
-        },
-        5 => Admitted {
+        };
+    }
+    if profile < 6 {
+        return Admitted {
             bits: Bits::One,
             form: Form::Range,
             unit: 40,
             limit: 5114,
-        },
-        6 => Admitted {
+        };
+    }
+    if profile < 7 {
+        return Admitted {
             bits: Bits::Each,
             form: Form::Only,
             unit: 52,
             limit: 0,
-        },
-        8 => Admitted {
+        };
+    }
+    if profile == 8 {
+        return Admitted {
             bits: Bits::One,
             form: Form::Tiered,
             unit: 40,
             limit: 6144,
-        },
-        9 => Admitted {
+        };
+    }
+    if profile == 9 {
+        return Admitted {
             bits: Bits::One,
             form: Form::Fours,
             unit: 24,
             limit: 2400,
-        },
-        _ => Admitted {
-            bits: Bits::Each,
-            form: Form::Only,
-            unit: 108,
-            limit: 0,
-        },
+        };
+    }
+    Admitted {
+        bits: Bits::Each,
+        form: Form::Only,
+        unit: 108,
+        limit: 0,
     }
 }
