@@ -1,11 +1,11 @@
--- `put_answer` puts the text of what the bytes ask for.
+-- `put_behind` puts the text of what the bytes ask for.
 use mathlib.Core.Path.{◌≡◌, ap, sym, ◌∙◌}
 use Rattle.laws.specs.Outcome.{done, say}
 use Rattle.words.specs.Puts.{put_as}
 use Rattle.report_asked.specs.Asked.{asked_by}
 use Rattle.report_asked.specs.Exactly.{asked_exactly}
 use Rattle.report_pages.specs.Text.{text_of, answer_text}
-use Rattle.report_pages.proofs.text.put_answer.Goals as goal
+use Rattle.report_pages.proofs.text.put_behind.Goals as goal
 
 pub put_report-requires : goal.put_report-requires
 put_report-requires c =
