@@ -16,7 +16,7 @@ pub struct Seen {
 fn place(kind: u32, a: usize) -> u64 {
     let branches = standards::branches(kind);
     let queue = standards::queue(kind, branches - 1 - standards::rest(a, branches));
-    plus(a as u64, queue.wrapping_mul(branches) as u64)
+    plus(a as u64, (queue * branches) as u64)
 }
 
 // Byte t of a channel with a burst of n bytes from byte `at` on.

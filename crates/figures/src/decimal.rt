@@ -3,7 +3,7 @@
 ghost use Rattle.std.specs.Prelude.{◌≡◌, drop, ◌≤◌, ◌<◌};
 
 // The room of a text: the longest has a sign, a zero, the point and 149 decimals.
-const PLACES: usize = 160;
+pub const PLACES: usize = 160;
 
 // Where a number of 24 bits starts, which has 8 digits.
 const START: usize = 152;

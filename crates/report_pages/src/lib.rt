@@ -6,13 +6,13 @@ pub mod text; // text.rt: the text that they give
 
 use system::System;
 use taken::{MOST, Taken};
-use words::text::Text;
+use words::text::ROOM;
 
 // Prints what the first n bytes give.
 fn print(system: System, bytes: &[u8; MOST], n: usize) {
-    let mut text = Text::new(system);
-    text::put_taken(&mut text, bytes, n);
-    text.flush();
+    let mut room = [0u8; ROOM];
+    let at = text::put_taken(system, &mut room, bytes, n);
+    words::text::flush(system, &room, at);
 }
 
 // Reads the two lines, and prints the report or the refusal. Where a read fails, that is told and nothing is printed.

@@ -1,13 +1,15 @@
 // The text of the report, to the letter.
 ghost use Rattle.std.specs.Prelude.{take};
+ghost use Rattle.words.specs.Gathered.{Put};
 ghost use Rattle.words.specs.Texts.{Puts};
 ghost use Rattle.wcdma_shape.specs.Rectangle.{Size};
 ghost use Rattle.wcdma_report.specs.Report.{Between, figures, totals, sizes_in};
 ghost use Rattle.report_pages.specs.Text.{field_text, row_text, rows_text, total_text, report_text, refusal_text, answer_text};
 
 use super::taken::MOST;
+use system::System;
 use wcdma_report::{Figures, Totals};
-use words::text::Text;
+use words::text::{ROOM, Text};
 
 // A number, and what stands behind it.
 fn field(text: &mut Text, n: u32, end: &[u8])
@@ -84,8 +86,8 @@ fn put_refusal(text: &mut Text, number: u32)
     field(text, number, b"\n");
 }
 
-// What the bytes of two lines give: the report, or the refusal.
-pub fn put_answer(text: &mut Text, bytes: &[u8])
+// What the bytes of two lines give, the report or the refusal, behind what waits.
+pub fn put_behind(text: &mut Text, bytes: &[u8])
     ensures { Puts text.old (answer_text bytes.now) text.new }
 {
     match report_asked::read(bytes) {
@@ -94,9 +96,24 @@ pub fn put_answer(text: &mut Text, bytes: &[u8])
     }
 }
 
-// What the first n of the bytes that were read give.
-pub(super) fn put_taken(text: &mut Text, bytes: &[u8; MOST], n: usize)
-    ensures { Puts text.old (answer_text (take n bytes.now)) text.new }
+// The same into a room of the caller's, from its start on. Answers how many bytes wait there.
+pub fn put_answer(system: System, room: &mut [u8; ROOM], bytes: &[u8]) -> usize
+    ensures { Put room.old 0 (answer_text bytes.now) room.new result }
 {
-    put_answer(text, lines::first(bytes, n));
+    let mut text = Text::over(system, *room, 0);
+    put_behind(&mut text, bytes);
+    *room = *text.room();
+    text.waiting().len()
+}
+
+// What the first n of the bytes that were read give.
+pub(super) fn put_taken(
+    system: System,
+    room: &mut [u8; ROOM],
+    bytes: &[u8; MOST],
+    n: usize,
+) -> usize
+    ensures { Put room.old 0 (answer_text (take n bytes.now)) room.new result }
+{
+    put_answer(system, room, lines::first(bytes, n))
 }

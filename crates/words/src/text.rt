@@ -1,5 +1,5 @@
 // Text that is gathered before it is written: a system call for each part of a line would cost more than the line.
-ghost use Rattle.std.specs.Prelude.{◌≡◌, ◌≤◌};
+ghost use Rattle.std.specs.Prelude.{◌≡◌, ◌≤◌, length, min, take};
 ghost use Rattle.words.specs.Gathered.{Put, PutNumber};
 
 use lines::first;
@@ -32,7 +32,36 @@ impl Text {
         }
     }
 
-    // Puts s behind what waits. A full room is written first.
+    // The first `from` bytes of a room of the caller's wait, or all of it.
+    pub fn over(system: System, room: [u8; ROOM], from: usize) -> Text
+        ensures room { result.room ≡ room }
+        ensures at { result.at ≡ min from 4096 }
+    {
+        Text {
+            system,
+            room,
+            at: from.min(ROOM),
+        }
+    }
+
+    // The room: what waits stands at its start.
+    pub fn room(&self) -> &[u8; ROOM]
+        ensures { result.now ≡ self.now.room }
+    {
+        &self.room
+    }
+
+    // What waits.
+    pub fn waiting(&self) -> &[u8]
+        ensures value { result.now ≡ take self.now.at self.now.room }
+        ensures long { length result.now ≡ self.now.at }
+    {
+        first(&self.room, self.at)
+    }
+
+    // Puts s behind what waits. A full room is written first. (Made part of each caller, as `put_number` and the two that they call: a call a number, which saves
+    // its registers and looks up where the text ends, makes a list of addresses a quarter dearer.)
+    #[inline(always)]
     pub fn put(&mut self, s: &[u8])
         ensures { Puts self.old s.now self.new }
     {
@@ -40,6 +69,7 @@ impl Text {
     }
 
     // The same for a number in decimal.
+    #[inline(always)]
     pub fn put_number(&mut self, n: u64)
         ensures { PutsNumber self.old n self.new }
     {
@@ -54,6 +84,7 @@ impl Text {
 
 // Puts s after the `from` bytes that wait at the start of a room, and answers how many wait then. A full room is written first. (For whoever has a room of
 // his own; any `from` may be given, where a Text has at most what its room holds.)
+#[inline(always)]
 pub fn put(system: System, room: &mut [u8; ROOM], from: usize, s: &[u8]) -> usize
     ensures { Put room.old from s.now room.new result }
 {
@@ -70,6 +101,7 @@ pub fn put(system: System, room: &mut [u8; ROOM], from: usize, s: &[u8]) -> usiz
 }
 
 // The same for a number in decimal.
+#[inline(always)]
 pub fn put_number(system: System, room: &mut [u8; ROOM], from: usize, n: u64) -> usize
     ensures { PutNumber room.old from n room.new result }
 {
